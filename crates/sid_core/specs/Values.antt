@@ -1,0 +1,43 @@
+-- The sets in which values lie, in scripts, tables and records alike.
+use Rattle.std.specs.Prelude.{◌≡◌, ℕ, Bool, ◌==◌, ◌<◌, ◌≤◌, ◌^◌, IsTrue, List, [], ◌∷◌, length}
+use Rattle.std.specs.List.{AllByRecursion, list_any}
+use Rattle.std.specs.Int.RustNames.{bit_and}
+use Rattle.sid_core.specs.declared.call.Span.{Span}
+
+-- a number of 32 bits, and one of 64
+abbrev pub IsU32 : ℕ → Type 0
+IsU32 n = n < 2 ^ 32
+
+abbrev pub IsU64 : ℕ → Type 0
+IsU64 n = n < 2 ^ 64
+
+-- Access rights: one at least, and none outside the fourteen that have names.
+pub record IsAccess (bits : ℕ) : Type 0 where
+  pub some : 0 < bits
+  pub known : bit_and bits 0x1F01FF ≡ bits
+
+-- any of the three share bits
+abbrev pub IsShare : ℕ → Type 0
+IsShare bits = bits < 8
+
+-- none, R, RH, RW or RWH
+abbrev pub is_state : ℕ → Bool
+is_state bits = list_any (λ state. state == bits) (0 ∷ 1 ∷ 3 ∷ 5 ∷ 7 ∷ [])
+
+abbrev pub IsState : ℕ → Type 0
+IsState bits = IsTrue (is_state bits)
+
+abbrev pub IsMoment : ℕ → Type 0
+IsMoment seconds = seconds ≤ 9999999999
+
+abbrev pub IsSpan : Span → Type 0
+IsSpan span = IsU64 span.start × IsU64 span.length
+
+-- a printable byte other than the space
+abbrev pub IsPrintable : ℕ → Type 0
+IsPrintable byte = (0x21 ≤ byte) × (byte ≤ 0x7E)
+
+pub record IsText (bytes : List ℕ) : Type 0 where
+  pub some : 1 ≤ length bytes
+  pub short : length bytes ≤ 255
+  pub printable : AllByRecursion IsPrintable bytes
