@@ -1,0 +1,15 @@
+-- `close`.
+use Rattle.std.specs.Prelude.{ℕ, List, [], ◌∷◌}
+use Rattle.sid_core.specs.declared.reply.Reply.TheVariants.{Done, FileClosed}
+use Rattle.serial_table.specs.declared.rows.OpenRow.{OpenRow}
+use Rattle.serial_table.specs.declared.change.Change.TheVariants.{DropOpen}
+use Rattle.serial_table.specs.View.{View}
+use Rattle.serial_table.specs.Decision.{Caller, Decision, only_reply, spots_of}
+
+-- the open that the handle names, if any, goes
+abbrev pub close_one : List OpenRow → Decision
+close_one [] = only_reply FileClosed
+close_one (open_row ∷ others) = record (only_reply Done) { changes = DropOpen open_row.file open_row.id ∷ []; spots = spots_of open_row.file }
+
+unfoldable pub close : View → Caller → ℕ → Decision
+close v caller handle = close_one (v.opens_of_handle caller.sid handle)

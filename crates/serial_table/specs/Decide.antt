@@ -1,0 +1,23 @@
+-- Which rules each call goes by. Calls that aren't served have none yet.
+use Rattle.std.specs.Prelude.{ℕ, zero, suc, Bool, true, false, None, IsTrue}
+use Rattle.sid_core.specs.declared.call.Call.{Call}
+use Rattle.sid_core.specs.declared.call.Call.TheVariants.{OpenFile, Close, Ack, Lock, Unlock, Read, Write, GLock, GUnlock, Recv, Disconnect, Reconnect, Scavenge, Tidy, Status}
+use Rattle.sid_core.specs.declared.reply.Reply.TheVariants.{Unsuccessful}
+use Rattle.serial_table.specs.View.{View}
+use Rattle.serial_table.specs.Decision.{Caller, Decision, Outcome, only_reply, conclude}
+use Rattle.serial_table.specs.Open.{open_file}
+use Rattle.serial_table.specs.Close.{close}
+
+-- the calls that are served: `open` without lease, durable seconds and overwrite, and `close`
+abbrev pub is_served : Call → Bool
+is_served (OpenFile file access share None zero false) = true
+is_served (Close handle) = true
+is_served _ = false
+
+abbrev pub decide : View → Caller → Call → Decision
+decide v caller (OpenFile file access share lease durable overwrite) = open_file v caller file access share
+decide v caller (Close handle) = close v caller handle
+decide v caller _ = only_reply Unsuccessful
+
+abbrev pub outcome : View → Caller → Call → Outcome
+outcome v caller call = conclude v (decide v caller call)

@@ -1,0 +1,13 @@
+pub mod Share
+pub mod View
+pub mod Settle
+pub mod Change
+pub mod Wake
+pub mod Decision
+pub mod Open
+pub mod Close
+pub mod Decide
+pub mod Step
+pub mod History
+pub mod Sound
+pub mod Text

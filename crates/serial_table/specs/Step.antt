@@ -1,0 +1,40 @@
+-- One call at a table.
+use Rattle.std.specs.Prelude.{◌≡◌, ℕ, zero, suc, ◌==◌, List, Option, Some, None, option_and_then, slice_get, if◌then◌else◌}
+use Rattle.sid_core.specs.declared.ids.Moment.{Moment}
+use Rattle.sid_core.specs.declared.entry.Post.{Post}
+use Rattle.sid_core.specs.declared.call.Call.{Call}
+use Rattle.sid_core.specs.declared.reply.Reply.{Reply}
+use Rattle.sid_core.specs.declared.setup.Setup.{Setup}
+use Rattle.sid_core.specs.declared.setup.WorkerInfo.{WorkerInfo}
+use Rattle.serial_table.specs.declared.rows.WorkerRow.{WorkerRow}
+use Rattle.serial_table.specs.declared.table.Table.{Table}
+use Rattle.serial_table.specs.View.{View, view}
+use Rattle.serial_table.specs.Change.{apply_all}
+use Rattle.serial_table.specs.Decision.{Caller, Outcome}
+use Rattle.serial_table.specs.Decide.{outcome}
+
+-- what is declared with a number, from 1
+abbrev pub declared_at : {X : Type 0} → List X → ℕ → Option X
+declared_at declared zero = None
+declared_at declared (suc place) = slice_get declared place
+
+abbrev pub caller_if_alive : WorkerInfo → ℕ → Moment → WorkerRow → Option Caller
+caller_if_alive info number moment row =
+    if row.alive then Some (record { sid = record { pid = row.pid; session = row.session }; guid = info.guid; number = number; moment = moment }) else None
+
+-- the caller, where the worker is declared and alive
+unfoldable pub caller_of : Setup → View → ℕ → ℕ → Moment → Option Caller
+caller_of setup v worker number moment =
+    option_and_then (λ info. option_and_then (caller_if_alive info number moment) (v.worker_of info.pid)) (declared_at setup.workers worker)
+
+-- the table after a call, what it answers, and what it posts
+pub record Stepped : Type 0 where
+  pub table : Table
+  pub reply : Reply
+  pub posts : List Post
+
+abbrev pub carried_out : Table → Outcome → Stepped
+carried_out t done = record { table = apply_all done.changes t; reply = done.reply; posts = done.posts }
+
+abbrev pub step : Table → Caller → Call → Stepped
+step t caller call = carried_out t (outcome (view t) caller call)
