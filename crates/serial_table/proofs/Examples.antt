@@ -14,7 +14,8 @@ use Rattle.sid_core.specs.declared.setup.WorkerInfo.{WorkerInfo}
 use Rattle.sid_core.specs.declared.setup.FileInfo.{FileInfo}
 use Rattle.serial_table.specs.declared.table.Table.{Table}
 use Rattle.serial_table.specs.Settle.{settle, settled}
-use Rattle.serial_table.specs.Decision.{Caller, conclude}
+use Rattle.serial_table.specs.declared.decision.Caller.{Caller}
+use Rattle.serial_table.specs.Decision.{conclude}
 use Rattle.serial_table.specs.Open.{open_file}
 use Rattle.serial_table.specs.Close.{close}
 use Rattle.serial_table.specs.Step.{caller_of}
@@ -59,17 +60,34 @@ closed_twice_prints = refl
 
 closed_twice_is_legal : AreLegal two_workers (start two_workers) closed_twice
 unfolding settle settled conclude open_file close caller_of
-closed_twice_is_legal = (record {
-    numbered = (lit≤ tt, lit≤ tt); timed = lit≤ tt; served = refl;
+closed_twice_is_legal = (
+  record {
+    numbered = (lit≤ tt, lit≤ tt);
+    timed = lit≤ tt;
+    served = refl;
     in_sets = ((lit≤ tt, lit≤ tt), record { some = lit< tt; known = refl }, lit< tt, tt, lit< tt);
     answered = record { caller = caller_1 1 0; is_caller = refl; answered = refl };
-  }, (record {
-    numbered = (lit≤ tt, lit≤ tt); timed = lit≤ tt; served = refl; in_sets = lit< tt;
-    answered = record { caller = caller_1 2 0; is_caller = refl; answered = refl };
-  }, (record {
-    numbered = (lit≤ tt, lit≤ tt); timed = lit≤ tt; served = refl; in_sets = lit< tt;
-    answered = record { caller = caller_1 3 0; is_caller = refl; answered = refl };
-  }, tt)))
+  },
+  (
+    record {
+      numbered = (lit≤ tt, lit≤ tt);
+      timed = lit≤ tt;
+      served = refl;
+      in_sets = lit< tt;
+      answered = record { caller = caller_1 2 0; is_caller = refl; answered = refl };
+    },
+    (
+      record {
+        numbered = (lit≤ tt, lit≤ tt);
+        timed = lit≤ tt;
+        served = refl;
+        in_sets = lit< tt;
+        answered = record { caller = caller_1 3 0; is_caller = refl; answered = refl };
+      },
+      tt,
+    ),
+  ),
+)
 
 -- ---- two workers, of which the second asks to read what the first writes without sharing reads
 
@@ -84,20 +102,40 @@ violated_prints = refl
 
 violated_is_legal : AreLegal two_workers (start two_workers) violated
 unfolding settle settled conclude open_file close caller_of
-violated_is_legal = (record {
-    numbered = (lit≤ tt, lit≤ tt); timed = lit≤ tt; served = refl;
+violated_is_legal = (
+  record {
+    numbered = (lit≤ tt, lit≤ tt);
+    timed = lit≤ tt;
+    served = refl;
     in_sets = ((lit≤ tt, lit≤ tt), record { some = lit< tt; known = refl }, lit< tt, tt, lit< tt);
     answered = record { caller = caller_1 1 0; is_caller = refl; answered = refl };
-  }, (record {
-    numbered = (lit≤ tt, lit≤ tt); timed = lit≤ tt; served = refl;
-    in_sets = ((lit≤ tt, lit≤ tt), record { some = lit< tt; known = refl }, lit< tt, tt, lit< tt);
-    answered = record { caller = caller_2 1 1; is_caller = refl; answered = refl };
-  }, (record {
-    numbered = (lit≤ tt, lit≤ tt); timed = lit≤ tt; served = refl;
-    in_sets = ((lit≤ tt, lit≤ tt), record { some = lit< tt; known = refl }, lit< tt, tt, lit< tt);
-    answered = record { caller = caller_2 2 1; is_caller = refl; answered = refl };
-  }, (record {
-    numbered = (lit≤ tt, lit≤ tt); timed = lit≤ tt; served = refl;
-    in_sets = ((lit≤ tt, lit≤ tt), record { some = lit< tt; known = refl }, lit< tt, tt, lit< tt);
-    answered = record { caller = caller_1 2 2; is_caller = refl; answered = refl };
-  }, tt))))
+  },
+  (
+    record {
+      numbered = (lit≤ tt, lit≤ tt);
+      timed = lit≤ tt;
+      served = refl;
+      in_sets = ((lit≤ tt, lit≤ tt), record { some = lit< tt; known = refl }, lit< tt, tt, lit< tt);
+      answered = record { caller = caller_2 1 1; is_caller = refl; answered = refl };
+    },
+    (
+      record {
+        numbered = (lit≤ tt, lit≤ tt);
+        timed = lit≤ tt;
+        served = refl;
+        in_sets = ((lit≤ tt, lit≤ tt), record { some = lit< tt; known = refl }, lit< tt, tt, lit< tt);
+        answered = record { caller = caller_2 2 1; is_caller = refl; answered = refl };
+      },
+      (
+        record {
+          numbered = (lit≤ tt, lit≤ tt);
+          timed = lit≤ tt;
+          served = refl;
+          in_sets = ((lit≤ tt, lit≤ tt), record { some = lit< tt; known = refl }, lit< tt, tt, lit< tt);
+          answered = record { caller = caller_1 2 2; is_caller = refl; answered = refl };
+        },
+        tt,
+      ),
+    ),
+  ),
+)

@@ -4,7 +4,9 @@ use Rattle.sid_core.specs.declared.reply.Reply.TheVariants.{Done, FileClosed}
 use Rattle.serial_table.specs.declared.rows.OpenRow.{OpenRow}
 use Rattle.serial_table.specs.declared.change.Change.TheVariants.{DropOpen}
 use Rattle.serial_table.specs.View.{View}
-use Rattle.serial_table.specs.Decision.{Caller, Decision, only_reply, spots_of}
+use Rattle.serial_table.specs.declared.decision.Caller.{Caller}
+use Rattle.serial_table.specs.declared.decision.Decision.{Decision}
+use Rattle.serial_table.specs.Decision.{only_reply, spots_of}
 
 -- the open that the handle names, if any, goes
 abbrev pub close_one : List OpenRow → Decision

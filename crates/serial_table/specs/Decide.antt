@@ -4,7 +4,9 @@ use Rattle.sid_core.specs.declared.call.Call.{Call}
 use Rattle.sid_core.specs.declared.call.Call.TheVariants.{OpenFile, Close, Ack, Lock, Unlock, Read, Write, GLock, GUnlock, Recv, Disconnect, Reconnect, Scavenge, Tidy, Status}
 use Rattle.sid_core.specs.declared.reply.Reply.TheVariants.{Unsuccessful}
 use Rattle.serial_table.specs.View.{View}
-use Rattle.serial_table.specs.Decision.{Caller, Decision, Outcome, only_reply, conclude}
+use Rattle.serial_table.specs.declared.decision.Caller.{Caller}
+use Rattle.serial_table.specs.declared.decision.Decision.{Decision}
+use Rattle.serial_table.specs.Decision.{Outcome, only_reply, conclude}
 use Rattle.serial_table.specs.Open.{open_file}
 use Rattle.serial_table.specs.Close.{close}
 

@@ -1,36 +1,16 @@
 -- What a call decides, and what the rules then say of every call alike.
 use Rattle.std.specs.Prelude.{ℕ, List, [], ◌∷◌, ◌++◌, Option, Some, None, map, filter}
-use Rattle.sid_core.specs.declared.ids.Sid.{Sid}
-use Rattle.sid_core.specs.declared.ids.Moment.{Moment}
 use Rattle.sid_core.specs.declared.ids.Spot.{Spot}
 use Rattle.sid_core.specs.declared.ids.Spot.TheVariants.{OpenOf, RangesOf}
 use Rattle.sid_core.specs.declared.entry.Post.{Post}
 use Rattle.sid_core.specs.declared.reply.Reply.{Reply}
 use Rattle.serial_table.specs.declared.rows.WaiterRow.{WaiterRow}
+use Rattle.serial_table.specs.declared.decision.Decision.{Decision}
 use Rattle.serial_table.specs.declared.change.Change.{Change}
 use Rattle.serial_table.specs.declared.change.Change.TheVariants.{AddWaiter, DropWaiters, Send, Settle}
 use Rattle.serial_table.specs.View.{View}
 use Rattle.serial_table.specs.Change.{change_all}
 use Rattle.serial_table.specs.Wake.{some_frees, wakes}
-
--- who calls: its current session, its client's guid, the number of the call, and the moment
-pub record Caller : Type 0 where
-  pub sid : Sid
-  pub guid : ℕ
-  pub number : ℕ
-  pub moment : Moment
-
--- what a call decides by its own rules
-pub record Decision : Type 0 where
-  -- one after another
-  pub changes : List Change
-  pub reply : Reply
-  -- what it posts before any wake: the break letters, in the order in which they are made
-  pub posts : List Post
-  -- the spots that it may free: of its files in rising number, first the opens and then the ranges of each; last a lock
-  pub spots : List Spot
-  -- how the caller waits from now on
-  pub waits : Option WaiterRow
 
 -- nothing but a reply
 abbrev pub only_reply : Reply → Decision

@@ -16,9 +16,10 @@ use Rattle.sid_core.specs.Call.{IsCall}
 use Rattle.serial_table.specs.declared.rows.WorkerRow.{WorkerRow}
 use Rattle.serial_table.specs.declared.table.Table.{Table}
 use Rattle.serial_table.specs.View.{view}
-use Rattle.serial_table.specs.Decision.{Caller}
+use Rattle.serial_table.specs.declared.decision.Caller.{Caller}
 use Rattle.serial_table.specs.Decide.{is_served}
-use Rattle.serial_table.specs.Step.{Stepped, caller_of, step}
+use Rattle.serial_table.specs.declared.decision.Stepped.{Stepped}
+use Rattle.serial_table.specs.Step.{caller_of, step}
 
 -- ---- where a history starts
 
@@ -33,8 +34,14 @@ start_workers number (info ∷ infos) = start_worker number info ∷ start_worke
 -- Nothing is open, and each worker is alive in session 1, connected at moment 0.
 abbrev pub start : Setup → Table
 start setup = record {
-  opens = []; leases = []; ranges = []; holds = []; waiters = []; letters = [];
-  workers = start_workers 1 setup.workers; ended = [];
+  opens = [];
+  leases = [];
+  ranges = [];
+  holds = [];
+  waiters = [];
+  letters = [];
+  workers = start_workers 1 setup.workers;
+  ended = [];
 }
 
 -- ---- what an entry does

@@ -10,7 +10,9 @@ use Rattle.serial_table.specs.declared.change.Change.{Change}
 use Rattle.serial_table.specs.declared.change.Change.TheVariants.{AddOpen, DropWaiter}
 use Rattle.serial_table.specs.Share.{share_conflict}
 use Rattle.serial_table.specs.View.{View}
-use Rattle.serial_table.specs.Decision.{Caller, Decision, only_reply, spots_of}
+use Rattle.serial_table.specs.declared.decision.Caller.{Caller}
+use Rattle.serial_table.specs.declared.decision.Decision.{Decision}
+use Rattle.serial_table.specs.Decision.{only_reply, spots_of}
 
 -- whether an open that is asked for conflicts with this one
 abbrev pub conflicts : Access → Share → OpenRow → Bool
@@ -20,8 +22,14 @@ conflicts access share open_row = share_conflict access.0 share.0 open_row.acces
 abbrev pub new_open : Caller → ℕ → Access → Share → OpenRow
 new_open caller file access share = record {
   id = record { pid = caller.sid.pid; call = caller.number };
-  owner = caller.sid; handle = caller.number; file = file; access = access; share = share;
-  lease = None; durable = 0; opened = caller.moment;
+  owner = caller.sid;
+  handle = caller.number;
+  file = file;
+  access = access;
+  share = share;
+  lease = None;
+  durable = 0;
+  opened = caller.moment;
 }
 
 -- the caller no longer waits for the file's opens, whatever follows

@@ -10,7 +10,9 @@ use Rattle.serial_table.specs.declared.rows.WorkerRow.{WorkerRow}
 use Rattle.serial_table.specs.declared.table.Table.{Table}
 use Rattle.serial_table.specs.View.{View, view}
 use Rattle.serial_table.specs.Change.{apply_all}
-use Rattle.serial_table.specs.Decision.{Caller, Outcome}
+use Rattle.serial_table.specs.declared.decision.Caller.{Caller}
+use Rattle.serial_table.specs.declared.decision.Stepped.{Stepped}
+use Rattle.serial_table.specs.Decision.{Outcome}
 use Rattle.serial_table.specs.Decide.{outcome}
 
 -- what is declared with a number, from 1
@@ -26,12 +28,6 @@ caller_if_alive info number moment row =
 unfoldable pub caller_of : Setup → View → ℕ → ℕ → Moment → Option Caller
 caller_of setup v worker number moment =
     option_and_then (λ info. option_and_then (caller_if_alive info number moment) (v.worker_of info.pid)) (declared_at setup.workers worker)
-
--- the table after a call, what it answers, and what it posts
-pub record Stepped : Type 0 where
-  pub table : Table
-  pub reply : Reply
-  pub posts : List Post
 
 abbrev pub carried_out : Table → Outcome → Stepped
 carried_out t done = record { table = apply_all done.changes t; reply = done.reply; posts = done.posts }

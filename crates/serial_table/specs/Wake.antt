@@ -7,6 +7,7 @@ use Rattle.sid_core.specs.declared.entry.Letter.TheVariants.{Wake}
 use Rattle.sid_core.specs.declared.entry.Post.{Post}
 use Rattle.sid_core.specs.Ids.{same_id}
 use Rattle.serial_table.specs.declared.rows.WaiterRow.{WaiterRow}
+use Rattle.serial_table.specs.declared.decision.Candidate.{Candidate}
 use Rattle.serial_table.specs.declared.change.Change.{Change}
 use Rattle.serial_table.specs.declared.change.Change.TheVariants.{DropOpen, Settle}
 use Rattle.serial_table.specs.View.{View}
@@ -25,6 +26,10 @@ frees _ v spot = false
 abbrev pub some_frees : List Change → View → Spot → Bool
 some_frees [] v spot = false
 some_frees (c ∷ cs) v spot = frees c v spot || some_frees cs (change c v) spot
+
+-- a spot, with what a test says of it
+abbrev pub judged : (Spot → Bool) → Spot → Candidate
+judged test spot = record { spot = spot; freed = test spot }
 
 -- each waiter gets one letter, with the number of its call
 abbrev pub wake : WaiterRow → Post

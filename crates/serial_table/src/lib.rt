@@ -4,6 +4,7 @@
 mod apply;
 mod change;
 mod decide;
+mod decision;
 mod perform;
 mod rows;
 mod settle;
@@ -14,6 +15,7 @@ mod wake;
 
 pub use apply::Apply;
 pub use change::Change;
+pub use decision::{Caller, Candidate, Decision, Stepped};
 pub use rows::{Breaking, EndedRow, HoldRow, LeaseRow, OpenRow, RangeRow, WaiterRow, WorkerRow};
 pub use share::share_conflict;
 pub use table::Table;

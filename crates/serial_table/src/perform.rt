@@ -9,7 +9,7 @@ use crate::settle;
 use crate::table::Table;
 use sid_core::{Items, OpenId, OutOfMemory, Sid, Spot};
 
-fn is_same_spot(a: Spot, b: Spot) -> bool
+pub(crate) fn is_same_spot(a: Spot, b: Spot) -> bool
     ensures { result ≡ same_spot a b }
 {
     match (a, b) {
@@ -50,7 +50,11 @@ fn other_opens(opens: &Items<OpenRow>, file: u32, id: OpenId) -> Result<Items<Op
     Ok(Items::from_vec(rows))
 }
 
-fn other_ranges(ranges: &Items<RangeRow>, file: u32, id: OpenId) -> Result<Items<RangeRow>, OutOfMemory>
+fn other_ranges(
+    ranges: &Items<RangeRow>,
+    file: u32,
+    id: OpenId,
+) -> Result<Items<RangeRow>, OutOfMemory>
     ensures { IfOk result (λ rows. rows ≡ filter (is_other_range file id) ranges.now) }
 {
     let rows = ranges
@@ -62,7 +66,11 @@ fn other_ranges(ranges: &Items<RangeRow>, file: u32, id: OpenId) -> Result<Items
     Ok(Items::from_vec(rows))
 }
 
-fn other_waits(waiters: &Items<WaiterRow>, sid: Sid, spot: Spot) -> Result<Items<WaiterRow>, OutOfMemory>
+fn other_waits(
+    waiters: &Items<WaiterRow>,
+    sid: Sid,
+    spot: Spot,
+) -> Result<Items<WaiterRow>, OutOfMemory>
     ensures { IfOk result (λ rows. rows ≡ filter (is_other_wait sid spot) waiters.now) }
 {
     let rows = waiters

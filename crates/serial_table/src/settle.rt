@@ -131,7 +131,7 @@ fn drops_open(table: &Table, id: OpenId, row: &OpenRow) -> bool
     row.id == id && !keeps_open(table, row)
 }
 
-fn is_of_file(file: u32, row: &OpenRow) -> bool
+pub(crate) fn is_of_file(file: u32, row: &OpenRow) -> bool
     ensures { result ≡ is_of_file file row.now }
 {
     row.file == file
@@ -167,13 +167,18 @@ pub(crate) fn settled_leases(table: &Table) -> Result<Vec<LeaseRow>, OutOfMemory
     ensures { IfOk result (λ rows. rows.items ≡ map (settled_lease (view table.now)) table.now.leases) }
 {
     let leases = table.leases.as_slice();
-    Ok(leases
-        .iter()
-        .map(|lease| settled_lease(table, lease))
-        .collect(table.leases.allocator())?)
+    Ok(
+        leases
+            .iter()
+            .map(|lease| settled_lease(table, lease))
+            .collect(table.leases.allocator())?,
+    )
 }
 
-pub(crate) fn kept_leases(table: &Table, leases: &[LeaseRow]) -> Result<Items<LeaseRow>, OutOfMemory>
+pub(crate) fn kept_leases(
+    table: &Table,
+    leases: &[LeaseRow],
+) -> Result<Items<LeaseRow>, OutOfMemory>
     ensures { IfOk result (λ rows. rows ≡ filter (keeps_lease (view table.now)) leases.now) }
 {
     let rows = leases

@@ -7,10 +7,7 @@ use crate::table::Table;
 use sid_core::{Items, Moment, OutOfMemory, Setup, WorkerInfo};
 use std::alloc::Global;
 
-fn start_workers(
-    alloc: Global,
-    workers: &[WorkerInfo],
-) -> Result<Vec<WorkerRow>, OutOfMemory>
+fn start_workers(alloc: Global, workers: &[WorkerInfo]) -> Result<Vec<WorkerRow>, OutOfMemory>
     requires { length workers.now ≤ 64 }
     ensures { IfOk result (λ rows. rows.items ≡ start_workers 1 workers.now) }
 {

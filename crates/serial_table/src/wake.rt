@@ -1,0 +1,109 @@
+ghost use Rattle.std.specs.Prelude.{◌≡◌, ◌==◌, not, filter, map, IfOk, OnOk};
+ghost use Rattle.std.specs.List.{list_any, flat_map};
+ghost use Rattle.sid_core.specs.Ids.{same_id};
+ghost use Rattle.serial_table.specs.View.{view, is_of_file, waits_on};
+ghost use Rattle.serial_table.specs.Settle.{keeps_open, keeps_range};
+ghost use Rattle.serial_table.specs.Change.{apply, apply_all};
+ghost use Rattle.serial_table.specs.Wake.{frees, some_frees, judged, wake, wakes};
+
+use crate::change::Change;
+use crate::decision::Candidate;
+use crate::perform::is_same_spot;
+use crate::rows::{RangeRow, WaiterRow};
+use crate::settle::{is_of_file, keeps_open, keeps_range};
+use crate::table::Table;
+use sid_core::{Letter, OpenId, OutOfMemory, Post, Spot};
+
+fn is_range_of_file(file: u32, range: &RangeRow) -> bool
+    ensures { result ≡ (range.now.file == file) }
+{
+    range.file == file
+}
+
+fn is_range_of_open(id: OpenId, range: &RangeRow) -> bool
+    ensures { result ≡ same_id range.now.id id }
+{
+    range.id == id
+}
+
+fn has_range(table: &Table, file: u32, id: OpenId) -> bool
+    ensures { result ≡ list_any (λ range. same_id range.id id) ((view table.now).ranges_of file) }
+{
+    let ranges = table.ranges.as_slice();
+    ranges
+        .iter()
+        .filter(|range| is_range_of_file(file, range))
+        .any(|range| is_range_of_open(id, range))
+}
+
+fn loses_open(table: &Table, file: u32) -> bool
+    ensures { result ≡ list_any (λ row. not (keeps_open (view table.now) row)) ((view table.now).opens_of file) }
+{
+    let opens = table.opens.as_slice();
+    opens
+        .iter()
+        .filter(|open| is_of_file(file, open))
+        .any(|open| !keeps_open(table, open))
+}
+
+fn loses_range(table: &Table, file: u32) -> bool
+    ensures { result ≡ list_any (λ range. not (keeps_range (view table.now) range)) ((view table.now).ranges_of file) }
+{
+    let ranges = table.ranges.as_slice();
+    ranges
+        .iter()
+        .filter(|range| is_range_of_file(file, range))
+        .any(|range| !keeps_range(table, range))
+}
+
+fn frees(table: &Table, change: Change, spot: Spot) -> bool
+    ensures { result ≡ frees change (view table.now) spot }
+{
+    match (change, spot) {
+        (Change::DropOpen { file, .. }, Spot::OpenOf(of)) => file == of,
+        (Change::DropOpen { file, id }, Spot::RangesOf(of)) => file == of
+            && has_range(table, of, id),
+        (Change::Settle, Spot::OpenOf(of)) => loses_open(table, of),
+        (Change::Settle, Spot::RangesOf(of)) => loses_range(table, of),
+        _ => false,
+    }
+}
+
+fn is_waiting_on(spot: Spot, waiter: &WaiterRow) -> bool
+    ensures { result ≡ waits_on spot waiter.now }
+{
+    is_same_spot(waiter.spot, spot)
+}
+
+fn wake(waiter: &WaiterRow) -> Post
+    ensures { result ≡ wake waiter.now }
+{
+    Post {
+        to: waiter.sid,
+        letter: Letter::Wake { call: waiter.call },
+    }
+}
+
+fn wakes_on(table: &Table, spot: Spot) -> Result<Vec<Post>, OutOfMemory>
+    ensures { IfOk result (λ posts. posts.items ≡ map wake ((view table.now).waiters_on spot)) }
+{
+    let waiters = table.waiters.as_slice();
+    Ok(
+        waiters
+            .iter()
+            .filter(|waiter| is_waiting_on(spot, waiter))
+            .map(|waiter| wake(waiter))
+            .collect(table.waiters.allocator())?,
+    )
+}
+
+/// The wakes of all who wait on these spots.
+pub(crate) fn wakes(table: &Table, spots: &[Spot]) -> Result<Vec<Post>, OutOfMemory>
+    ensures { IfOk result (λ posts. posts.items ≡ wakes (view table.now) spots.now) }
+{
+    let mut posts = Vec::new(table.waiters.allocator());
+    for spot in spots {
+        posts.extend_from_slice(wakes_on(table, *spot)?.as_slice())?;
+    }
+    Ok(posts)
+}
