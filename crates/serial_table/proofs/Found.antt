@@ -5,7 +5,6 @@ use Rattle.serial_table.specs.declared.rows.OpenRow.{OpenRow}
 use Rattle.serial_table.specs.Close.{close_one}
 use Rattle.serial_table.specs.Decision.{only_reply}
 
-
 close_here : (p : OpenRow → Bool) (b : Bool) (x row : OpenRow) (xs : List OpenRow) → (find p xs ≡ Some row → close_one (filter p xs) ≡ close_one (row ∷ []))
     → cond b (Some x) (find p xs) ≡ Some row → close_one (cond b (x ∷ filter p xs) (filter p xs)) ≡ close_one (row ∷ [])
 close_here p true x row xs later e = let same : x ≡ row = cc in ap (λ (r : OpenRow). close_one (r ∷ [])) same

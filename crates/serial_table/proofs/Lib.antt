@@ -4,3 +4,9 @@ pub mod Found
 pub mod Filters
 pub mod Views
 pub mod Settling
+pub mod Woken
+pub mod Callers
+pub mod Alike
+pub mod Workers
+pub mod Differing
+pub mod Soundness

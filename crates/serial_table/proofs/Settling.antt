@@ -49,9 +49,9 @@ settled_lease_again v l =
     let k = settled_lease v l in
     let found : Bool = list_any (is_connected v) (v.opens_of_lease l.name l.file) in
     let kept : list_any (is_connected v) (filter (keeps_open v) (v.opens_of_lease k.name k.file)) ≡ list_any (is_connected v) (v.opens_of_lease l.name l.file) =
-        any_kept (is_connected v) (keeps_open v) (dropped v) (v.opens_of_lease k.name k.file)
-        ∙ ap (λ (n : LeaseName). list_any (is_connected v) (v.opens_of_lease n k.file)) (name-settled_lease v l)
-        ∙ ap (λ f. list_any (is_connected v) (v.opens_of_lease l.name f)) (file-settled_lease v l) in
+    any_kept (is_connected v) (keeps_open v) (dropped v) (v.opens_of_lease k.name k.file)
+    ∙ ap (λ (n : LeaseName). list_any (is_connected v) (v.opens_of_lease n k.file)) (name-settled_lease v l)
+    ∙ ap (λ f. list_any (is_connected v) (v.opens_of_lease l.name f)) (file-settled_lease v l) in
     settled_again_here v l l.breaking (list_any (is_connected v) (v.opens_of_lease l.name l.file)) (list_any (is_connected v) (filter (keeps_open v) (v.opens_of_lease k.name k.file))) refl (λ e. kept ∙ e)
 
 lacks_again : (v : View) (f : ℕ) (l : LeaseRow) → lacks_handle (settled v) f (settled_lease v l) ≡ lacks_handle v f l
@@ -72,8 +72,8 @@ none_lack : (v : View) (f : ℕ) (ls : List LeaseRow) → list_any (lacks_handle
 none_lack v f [] e = refl
 none_lack v f (l ∷ ls) e =
     none_kept (lacks_handle (settled v) f) (keeps_lease v (settled_lease v l)) (settled_lease v l) (filter (keeps_lease v) (map (settled_lease v) ls))
-        (lacks_again v f l ∙ left_false (lacks_handle v f l) (list_any (lacks_handle v f) ls) e)
-        (none_lack v f ls (right_false (lacks_handle v f l) (list_any (lacks_handle v f) ls) e))
+    (lacks_again v f l ∙ left_false (lacks_handle v f l) (list_any (lacks_handle v f) ls) e)
+    (none_lack v f ls (right_false (lacks_handle v f l) (list_any (lacks_handle v f) ls) e))
 
 not_true : (b : Bool) → not b ≡ true → b ≡ false
 not_true true e = absurd cc
@@ -95,7 +95,7 @@ range_kept : (v : View) (range : RangeRow) → keeps_range (settled v) range ≡
 unfolding settled
 range_kept v range =
     ap not (any_same (λ row. same_id row.id range.id && not (keeps_open (settled v) row)) (λ _. false) (keeps_open v)
-        (λ row h. ap (λ b. same_id row.id range.id && not b) (kept_twice v row h) ∙ and_false (same_id row.id range.id)) (v.opens_of range.file)
+    (λ row h. ap (λ b. same_id row.id range.id && not b) (kept_twice v row h) ∙ and_false (same_id row.id range.id)) (v.opens_of range.file)
     ∙ any_none (λ _. false) (λ _. refl) (filter (keeps_open v) (v.opens_of range.file)))
 
 lease_kept : (v : View) (l : LeaseRow) → keeps_lease v l ≡ true → keeps_lease (settled v) l ≡ true
@@ -114,7 +114,7 @@ settled_by_again v t =
     let opens = filter_kept (keeps_open v) (keeps_open (settled v)) (kept_twice v) t.opens in
     let ranges = filter_all (keeps_range (settled v)) (range_kept v) (filter (keeps_range v) t.ranges) in
     let leases = ap (filter (keeps_lease (settled v))) (map_again (settled_lease v) (settled_lease (settled v)) (settled_lease_again v) (keeps_lease v) t.leases)
-        ∙ filter_kept (keeps_lease v) (keeps_lease (settled v)) (lease_kept v) (map (settled_lease v) t.leases) in
+    ∙ filter_kept (keeps_lease v) (keeps_lease (settled v)) (lease_kept v) (map (settled_lease v) t.leases) in
     λ i. record t { opens = opens i; ranges = ranges i; leases = leases i }
 
 pub settle-settle : (t : Table) → settle (settle t) ≡ settle t
@@ -133,7 +133,7 @@ keeps_every_open v e row = ap (λ b. is_connected v row || not b) (none_lost v r
 pub keeps_every_range : (v : View) → ((name : LeaseName) → v.leases_of name ≡ []) → (range : RangeRow) → keeps_range v range ≡ true
 keeps_every_range v e range =
     ap not (any_none (λ row. same_id row.id range.id && not (keeps_open v row))
-        (λ row. ap (λ b. same_id row.id range.id && not b) (keeps_every_open v e row) ∙ and_false (same_id row.id range.id)) (v.opens_of range.file))
+    (λ row. ap (λ b. same_id row.id range.id && not b) (keeps_every_open v e row) ∙ and_false (same_id row.id range.id)) (v.opens_of range.file))
 
 pub no_leases : (t : Table) → t.leases ≡ [] → (name : LeaseName) → (view t).leases_of name ≡ []
 no_leases t e name = ap (filter (λ lease. same_name lease.name name)) e
@@ -145,3 +145,9 @@ settle_without_leases t e =
     let ranges = filter_all (keeps_range (view t)) (keeps_every_range (view t) (no_leases t e)) t.ranges in
     let leases = ap (λ ls. filter (keeps_lease (view t)) (map (settled_lease (view t)) ls)) e ∙ sym e in
     λ i. record t { opens = opens i; ranges = ranges i; leases = leases i }
+
+pub frees_no_open : (t : Table) → t.leases ≡ [] → (file : ℕ) → list_any (λ row. not (keeps_open (view t) row)) ((view t).opens_of file) ≡ false
+frees_no_open t e file = any_none (λ row. not (keeps_open (view t) row)) (λ row. ap not (keeps_every_open (view t) (no_leases t e) row)) ((view t).opens_of file)
+
+pub frees_no_range : (t : Table) → t.leases ≡ [] → (file : ℕ) → list_any (λ range. not (keeps_range (view t) range)) ((view t).ranges_of file) ≡ false
+frees_no_range t e file = any_none (λ range. not (keeps_range (view t) range)) (λ range. ap not (keeps_every_range (view t) (no_leases t e) range)) ((view t).ranges_of file)

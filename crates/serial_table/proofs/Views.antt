@@ -26,8 +26,12 @@ pub same_opens : (v w : View) → ((f : ℕ) → v.opens_of f ≡ w.opens_of f) 
     → record v { opens_of = w.opens_of; opens_of_lease = w.opens_of_lease; opens_of_handle = w.opens_of_handle; opens_of_id = w.opens_of_id; ranges_of = w.ranges_of; leases_of = w.leases_of } ≡ w → v ≡ w
 same_opens v w files leases handles ids ranges names others =
     (λ i. record v {
-      opens_of = λ f. files f i; opens_of_lease = λ n f. leases n f i; opens_of_handle = λ s h. handles s h i; opens_of_id = λ o. ids o i;
-      ranges_of = λ f. ranges f i; leases_of = λ n. names n i;
+      opens_of = λ f. files f i;
+      opens_of_lease = λ n f. leases n f i;
+      opens_of_handle = λ s h. handles s h i;
+      opens_of_id = λ o. ids o i;
+      ranges_of = λ f. ranges f i;
+      leases_of = λ n. names n i;
     }) ∙ others
 
 pub same_waiters : (v w : View) → ((p : Spot) → v.waiters_on p ≡ w.waiters_on p) → ((s : Sid) → v.waiters_behind s ≡ w.waiters_behind s) → ((s : Sid) → v.waits_of s ≡ w.waits_of s)
@@ -65,30 +69,30 @@ pub view-apply : (c : Change) (t : Table) → view (apply c t) ≡ change c (vie
 unfolding settle settled
 view-apply (AddOpen row) t =
     same_opens (view (apply (AddOpen row) t)) (change (AddOpen row) (view t))
-        (λ f. filter-append (is_of_file f) t.opens (row ∷ [])) (λ n f. filter-append (is_of_lease n f) t.opens (row ∷ []))
-        (λ s h. filter-append (is_of_handle s h) t.opens (row ∷ [])) (λ i. filter-append (has_id i) t.opens (row ∷ [])) (λ _. refl) (λ _. refl) refl
+    (λ f. filter-append (is_of_file f) t.opens (row ∷ [])) (λ n f. filter-append (is_of_lease n f) t.opens (row ∷ []))
+    (λ s h. filter-append (is_of_handle s h) t.opens (row ∷ [])) (λ i. filter-append (has_id i) t.opens (row ∷ [])) (λ _. refl) (λ _. refl) refl
 view-apply (DropOpen file id) t =
     same_opens (view (apply (DropOpen file id) t)) (change (DropOpen file id) (view t))
-        (λ f. filter-filter (is_of_file f) (is_other_open file id) t.opens) (λ n f. filter-filter (is_of_lease n f) (is_other_open file id) t.opens)
-        (λ s h. filter-filter (is_of_handle s h) (is_other_open file id) t.opens) (λ i. filter-filter (has_id i) (is_other_open file id) t.opens)
-        (λ f. filter-filter (λ range. range.file == f) (is_other_range file id) t.ranges) (λ _. refl) refl
+    (λ f. filter-filter (is_of_file f) (is_other_open file id) t.opens) (λ n f. filter-filter (is_of_lease n f) (is_other_open file id) t.opens)
+    (λ s h. filter-filter (is_of_handle s h) (is_other_open file id) t.opens) (λ i. filter-filter (has_id i) (is_other_open file id) t.opens)
+    (λ f. filter-filter (λ range. range.file == f) (is_other_range file id) t.ranges) (λ _. refl) refl
 view-apply (AddWaiter row) t =
     same_waiters (view (apply (AddWaiter row) t)) (change (AddWaiter row) (view t))
-        (λ p. filter-append (waits_on p) t.waiters (row ∷ [])) (λ s. filter-append (waits_behind s) t.waiters (row ∷ [])) (λ s. filter-append (waits_for s) t.waiters (row ∷ [])) refl
+    (λ p. filter-append (waits_on p) t.waiters (row ∷ [])) (λ s. filter-append (waits_behind s) t.waiters (row ∷ [])) (λ s. filter-append (waits_for s) t.waiters (row ∷ [])) refl
 view-apply (DropWaiter sid spot) t =
     same_waiters (view (apply (DropWaiter sid spot) t)) (change (DropWaiter sid spot) (view t))
-        (λ p. filter-filter (waits_on p) (is_other_wait sid spot) t.waiters) (λ s. filter-filter (waits_behind s) (is_other_wait sid spot) t.waiters) (λ s. filter-filter (waits_for s) (is_other_wait sid spot) t.waiters) refl
+    (λ p. filter-filter (waits_on p) (is_other_wait sid spot) t.waiters) (λ s. filter-filter (waits_behind s) (is_other_wait sid spot) t.waiters) (λ s. filter-filter (waits_for s) (is_other_wait sid spot) t.waiters) refl
 view-apply (DropWaiters spot) t =
     same_waiters (view (apply (DropWaiters spot) t)) (change (DropWaiters spot) (view t))
-        (λ p. filter-filter (waits_on p) (waits_elsewhere spot) t.waiters) (λ s. filter-filter (waits_behind s) (waits_elsewhere spot) t.waiters) (λ s. filter-filter (waits_for s) (waits_elsewhere spot) t.waiters) refl
+    (λ p. filter-filter (waits_on p) (waits_elsewhere spot) t.waiters) (λ s. filter-filter (waits_behind s) (waits_elsewhere spot) t.waiters) (λ s. filter-filter (waits_for s) (waits_elsewhere spot) t.waiters) refl
 view-apply (Send post) t =
     ap (λ letters. record (view t) { letters_of = letters })
-        (fun_ext (λ s. ap (map (λ p. p.letter)) (filter-append (is_to s) t.letters (post ∷ [])) ∙ map-append (λ p. p.letter) (filter (is_to s) t.letters) (filter (is_to s) (post ∷ []))))
+    (fun_ext (λ s. ap (map (λ p. p.letter)) (filter-append (is_to s) t.letters (post ∷ [])) ∙ map-append (λ p. p.letter) (filter (is_to s) t.letters) (filter (is_to s) (post ∷ []))))
 view-apply Settle t =
     same_opens (view (settle t)) (settled (view t))
-        (λ f. filter-filter (is_of_file f) (keeps_open (view t)) t.opens) (λ n f. filter-filter (is_of_lease n f) (keeps_open (view t)) t.opens)
-        (λ s h. filter-filter (is_of_handle s h) (keeps_open (view t)) t.opens) (λ i. filter-filter (has_id i) (keeps_open (view t)) t.opens)
-        (λ f. filter-filter (λ range. range.file == f) (keeps_range (view t)) t.ranges) (λ n. leases_settle (view t) n t.leases) refl
+    (λ f. filter-filter (is_of_file f) (keeps_open (view t)) t.opens) (λ n f. filter-filter (is_of_lease n f) (keeps_open (view t)) t.opens)
+    (λ s h. filter-filter (is_of_handle s h) (keeps_open (view t)) t.opens) (λ i. filter-filter (has_id i) (keeps_open (view t)) t.opens)
+    (λ f. filter-filter (λ range. range.file == f) (keeps_range (view t)) t.ranges) (λ n. leases_settle (view t) n t.leases) refl
 
 pub view-apply_all : (cs : List Change) (t : Table) → view (apply_all cs t) ≡ change_all cs (view t)
 view-apply_all [] t = refl

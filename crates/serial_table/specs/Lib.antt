@@ -11,3 +11,4 @@ pub mod Step
 pub mod History
 pub mod Sound
 pub mod Text
+pub mod Apply

@@ -31,6 +31,10 @@ some_frees (c ∷ cs) v spot = frees c v spot || some_frees cs (change c v) spot
 abbrev pub judged : (Spot → Bool) → Spot → Candidate
 judged test spot = record { spot = spot; freed = test spot }
 
+-- the same spot, judged by one test more
+abbrev pub freed_too : (Spot → Bool) → Candidate → Candidate
+freed_too test candidate = record { spot = candidate.spot; freed = candidate.freed || test candidate.spot }
+
 -- each waiter gets one letter, with the number of its call
 abbrev pub wake : WaiterRow → Post
 wake waiter = record { to = waiter.sid; letter = Wake waiter.call }

@@ -3,8 +3,10 @@
 
 mod apply;
 mod change;
+mod conclude;
 mod decide;
 mod decision;
+mod laws;
 mod perform;
 mod rows;
 mod settle;
@@ -16,6 +18,9 @@ mod wake;
 pub use apply::Apply;
 pub use change::Change;
 pub use decision::{Caller, Candidate, Decision, Stepped};
+pub use laws::{
+    alike_tables_step_alike, changes_go_by_key, settled_stays_settled, sharing_is_symmetric,
+};
 pub use rows::{Breaking, EndedRow, HoldRow, LeaseRow, OpenRow, RangeRow, WaiterRow, WorkerRow};
 pub use share::share_conflict;
 pub use table::Table;

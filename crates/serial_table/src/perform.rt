@@ -109,6 +109,9 @@ impl Table {
     fn settle(&mut self) -> Result<(), OutOfMemory>
         ensures { OnOk result (self.new ≡ settle self.old) }
     {
+        if self.leases.is_empty() {
+            return Ok(());
+        }
         let leases = settle::settled_leases(self)?;
         let leases = settle::kept_leases(self, leases.as_slice())?;
         let ranges = settle::kept_ranges(self)?;
@@ -138,5 +141,15 @@ impl Table {
             Change::Send(post) => self.letters.push(post),
             Change::Settle => self.settle(),
         }
+    }
+
+    /// Makes the changes one after another. After a refusal the table is not fit for use.
+    pub(crate) fn perform_all(&mut self, changes: &[Change]) -> Result<(), OutOfMemory>
+        ensures { OnOk result (self.new ≡ apply_all changes.now self.old) }
+    {
+        for change in changes {
+            self.perform(*change)?;
+        }
+        Ok(())
     }
 }

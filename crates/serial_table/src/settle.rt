@@ -10,7 +10,7 @@ use crate::table::Table;
 use bitflags::Flags;
 use sid_core::{Items, LeaseName, LeaseState, OpenId, OutOfMemory, Sid};
 
-fn worker_of(workers: &[WorkerRow], pid: u32) -> Option<WorkerRow>
+pub(crate) fn worker_of(workers: &[WorkerRow], pid: u32) -> Option<WorkerRow>
     ensures { result ≡ find (λ worker. worker.pid == pid) workers.now }
 {
     workers.iter().copied().find(|worker| worker.pid == pid)

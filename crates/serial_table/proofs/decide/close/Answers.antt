@@ -9,8 +9,8 @@ pub returns-in-Some : goal.returns-in-Some
 unfolding close
 returns-in-Some c =
     IfOk-weaker c.close_one.result _ _
-        (λ _ h. h ∙ sym (close_found (is_of_handle c.args.caller.now.sid c.args.handle) c.args.table.now.opens c.in-Some.open (sym c.in-Some.ensures)))
-        c.close_one.ensures
+    (λ _ h. h ∙ sym (close_found (is_of_handle c.args.caller.now.sid c.args.handle) c.args.table.now.opens c.in-Some.open (sym c.in-Some.ensures)))
+    c.close_one.ensures
 
 pub returns-in-None : goal.returns-in-None
 unfolding close

@@ -1,0 +1,35 @@
+-- The laws of the table's rules.
+use Rattle.std.proofs.Common.{◌≡◌, ℕ, Bool, true, false, ◌&&◌, ◌||◌, refl, sym, ap, ◌∙◌}
+use Rattle.sid_core.specs.declared.call.Call.{Call}
+use Rattle.serial_table.specs.declared.table.Table.{Table}
+use Rattle.serial_table.specs.declared.decision.Caller.{Caller}
+use Rattle.serial_table.specs.Share.{takes_part, is_hindered, share_conflict}
+use Rattle.serial_table.specs.View.{View, view}
+use Rattle.serial_table.specs.Change.{change_all}
+use Rattle.serial_table.specs.Decide.{outcome}
+use Rattle.serial_table.specs.Step.{step}
+use Rattle.serial_table.proofs.Views.{view-apply_all}
+
+either_way : (p q a b : Bool) → (p && q && (a || b)) ≡ (q && p && (b || a))
+either_way true true true true = refl
+either_way true true true false = refl
+either_way true true false true = refl
+either_way true true false false = refl
+either_way true false a b = refl
+either_way false true a b = refl
+either_way false false a b = refl
+
+pub share_conflict-swap : (a s b t : ℕ) → share_conflict a s b t ≡ share_conflict b t a s
+share_conflict-swap a s b t = either_way (takes_part a) (takes_part b) (is_hindered a t) (is_hindered b s)
+
+pub same_reply : (t u : Table) (caller : Caller) (call : Call) → view t ≡ view u → (step t caller call).reply ≡ (step u caller call).reply
+same_reply t u caller call e = ap (λ v. (outcome v caller call).reply) e
+
+pub same_posts : (t u : Table) (caller : Caller) (call : Call) → view t ≡ view u → (step t caller call).posts ≡ (step u caller call).posts
+same_posts t u caller call e = ap (λ v. (outcome v caller call).posts) e
+
+pub same_view : (t u : Table) (caller : Caller) (call : Call) → view t ≡ view u → view (step t caller call).table ≡ view (step u caller call).table
+same_view t u caller call e =
+    view-apply_all (outcome (view t) caller call).changes t
+    ∙ ap (λ v. change_all (outcome v caller call).changes v) e
+    ∙ sym (view-apply_all (outcome (view u) caller call).changes u)

@@ -1,0 +1,122 @@
+-- The workers at the start, and who calls while they are as they were.
+use Rattle.std.proofs.Common.{◌≡◌, ◌==◌, ℕ, zero, suc, Bool, true, false, cond, ◌&&◌, List, [], ◌∷◌, find, map, Option, Some, None, IsTrue, refl, sym, ap, ◌∙◌, eq-eqb}
+use Rattle.std.specs.Prelude.{option_and_then, slice_get, nat_eq}
+use Rattle.std.specs.List.{AllByRecursion, IsDistinct}
+use Rattle.std.specs.Option.{option_map_or}
+use Rattle.std.proofs.lemmas.Bool.{eqb-true}
+use Rattle.sid_core.specs.declared.ids.Moment.{Moment}
+use Rattle.sid_core.specs.declared.setup.Setup.{Setup}
+use Rattle.sid_core.specs.declared.setup.WorkerInfo.{WorkerInfo}
+use Rattle.serial_table.specs.declared.rows.WorkerRow.{WorkerRow}
+use Rattle.serial_table.specs.declared.table.Table.{Table}
+use Rattle.serial_table.specs.declared.decision.Caller.{Caller}
+use Rattle.serial_table.specs.View.{View, view}
+use Rattle.serial_table.specs.Step.{caller_of, caller_if_alive, declared_at}
+use Rattle.serial_table.specs.History.{start_worker, start_workers}
+
+-- ---- what is found at the start
+
+-- the row of the worker with this pid, alive in session 1
+pub record IsStarted (pid : ℕ) (row : WorkerRow) : Type 0 where
+  pub pid_is : row.pid ≡ pid
+  pub alive : row.alive ≡ true
+  pub session : row.session ≡ 1
+
+some_is : {A : Type 0} (x y : A) → ◌≡◌ {A = Option A} (Some x) (Some y) → x ≡ y
+some_is x y e = cc
+
+found_here : (b : Bool) (n : ℕ) (info : WorkerInfo) (rest : Option WorkerRow) (row : WorkerRow) (pid : ℕ) → (info.pid == pid) ≡ b → (rest ≡ Some row → IsStarted pid row)
+    → cond b (Some (start_worker n info)) rest ≡ Some row → IsStarted pid row
+found_here true n info rest row pid e later f =
+    let same : start_worker n info ≡ row = some_is (start_worker n info) row f in
+    record { pid_is = ap (λ (r : WorkerRow). r.pid) (sym same) ∙ eqb-true info.pid pid e; alive = ap (λ (r : WorkerRow). r.alive) (sym same); session = ap (λ (r : WorkerRow). r.session) (sym same) }
+found_here false n info rest row pid e later f = later f
+
+pub found_started : (infos : List WorkerInfo) (n pid : ℕ) (row : WorkerRow) → find (λ r. r.pid == pid) (start_workers n infos) ≡ Some row → IsStarted pid row
+found_started [] n pid row e = absurd cc
+found_started (info ∷ infos) n pid row e = found_here (info.pid == pid) n info (find (λ r. r.pid == pid) (start_workers (suc n) infos)) row pid refl (found_started infos (suc n) pid row) e
+
+-- a declared worker lives in session 1
+lives_here : (b : Bool) (n : ℕ) (info : WorkerInfo) (rest : Option WorkerRow) → option_map_or (λ r. r.alive && (r.session == 1)) rest false ≡ true
+    → option_map_or (λ (r : WorkerRow). r.alive && (r.session == 1)) (cond b (Some (start_worker n info)) rest) false ≡ true
+lives_here true n info rest later = refl
+lives_here false n info rest later = later
+
+lives_first : (b : Bool) (n : ℕ) (info : WorkerInfo) (rest : Option WorkerRow) → b ≡ true
+    → option_map_or (λ (r : WorkerRow). r.alive && (r.session == 1)) (cond b (Some (start_worker n info)) rest) false ≡ true
+lives_first true n info rest e = refl
+lives_first false n info rest e = absurd cc
+
+pub declared_lives : (infos : List WorkerInfo) (n place : ℕ) (info : WorkerInfo) → slice_get infos place ≡ Some info
+    → option_map_or (λ r. r.alive && (r.session == 1)) (find (λ r. r.pid == info.pid) (start_workers n infos)) false ≡ true
+declared_lives [] n place info e = absurd cc
+declared_lives (first ∷ infos) n zero info e =
+    lives_first (first.pid == info.pid) n first (find (λ r. r.pid == info.pid) (start_workers (suc n) infos))
+        (eq-eqb first.pid info.pid (ap (λ (i : WorkerInfo). i.pid) (some_is first info e)))
+declared_lives (first ∷ infos) n (suc place) info e =
+    lives_here (first.pid == info.pid) n first (find (λ r. r.pid == info.pid) (start_workers (suc n) infos)) (declared_lives infos (suc n) place info e)
+
+-- ---- one pid, one worker
+
+pid_is_other : (p : ℕ) (infos : List WorkerInfo) (place : ℕ) (info : WorkerInfo) → AllByRecursion (λ q. nat_eq p q ≡ false) (map (λ w. w.pid) infos) → slice_get infos place ≡ Some info → nat_eq p info.pid ≡ false
+pid_is_other p [] place info all e = absurd cc
+pid_is_other p (first ∷ infos) zero info all e = ap (λ (i : WorkerInfo). nat_eq p i.pid) (sym (some_is first info e)) ∙ all.0
+pid_is_other p (first ∷ infos) (suc place) info all e = pid_is_other p infos place info all.1 e
+
+clash : (p q : ℕ) → p ≡ q → nat_eq p q ≡ false → ⊥
+clash p q e f = let g : nat_eq p q ≡ true = eq-eqb p q e in cc
+
+pub one_place : (infos : List WorkerInfo) (i j : ℕ) (a b : WorkerInfo) → IsDistinct nat_eq (map (λ w. w.pid) infos) → slice_get infos i ≡ Some a → slice_get infos j ≡ Some b → a.pid ≡ b.pid → i ≡ j
+unfolding IsDistinct
+one_place [] i j a b d e f g = absurd cc
+one_place (first ∷ infos) zero zero a b d e f g = refl
+one_place (first ∷ infos) zero (suc j) a b d e f g =
+    absurd (clash first.pid b.pid (ap (λ (w : WorkerInfo). w.pid) (some_is first a e) ∙ g) (pid_is_other first.pid infos j b d.0 f))
+one_place (first ∷ infos) (suc i) zero a b d e f g =
+    absurd (clash first.pid a.pid (ap (λ (w : WorkerInfo). w.pid) (some_is first b f) ∙ sym g) (pid_is_other first.pid infos i a d.0 e))
+one_place (first ∷ infos) (suc i) (suc j) a b d e f g = ap suc (one_place infos i j a b d.1 e f g)
+
+pub one_worker : (infos : List WorkerInfo) (w x : ℕ) (a b : WorkerInfo) → IsDistinct nat_eq (map (λ w. w.pid) infos) → declared_at infos w ≡ Some a → declared_at infos x ≡ Some b → a.pid ≡ b.pid → w ≡ x
+one_worker infos zero x a b d e f g = absurd cc
+one_worker infos (suc i) zero a b d e f g = absurd cc
+one_worker infos (suc i) (suc j) a b d e f g = ap suc (one_place infos i j a b d e f g)
+
+-- ---- who calls
+
+-- a declared worker in session 1
+pub record IsFirstCaller (setup : Setup) (worker number : ℕ) (moment : Moment) (caller : Caller) : Type 0 where
+  pub info : WorkerInfo
+  pub declared : declared_at setup.workers worker ≡ Some info
+  pub pid : caller.sid.pid ≡ info.pid
+  pub session : caller.sid.session ≡ 1
+  pub number_is : caller.number ≡ number
+
+alive_caller : (info : WorkerInfo) (number : ℕ) (moment : Moment) (row : WorkerRow) (b : Bool) (caller : Caller)
+    → cond b (Some (record { sid = record { pid = row.pid; session = row.session }; guid = info.guid; number = number; moment = moment })) None ≡ Some caller
+    → (let c : Caller = record { sid = record { pid = row.pid; session = row.session }; guid = info.guid; number = number; moment = moment } in c) ≡ caller
+alive_caller info number moment row true caller e = some_is (record { sid = record { pid = row.pid; session = row.session }; guid = info.guid; number = number; moment = moment }) caller e
+alive_caller info number moment row false caller e = absurd cc
+
+by_row : (setup : Setup) (worker number : ℕ) (moment : Moment) (caller : Caller) (info : WorkerInfo) (o : Option WorkerRow) → declared_at setup.workers worker ≡ Some info
+    → ((row : WorkerRow) → o ≡ Some row → IsStarted info.pid row) → option_and_then (caller_if_alive info number moment) o ≡ Some caller → IsFirstCaller setup worker number moment caller
+by_row setup worker number moment caller info None d h e = absurd cc
+by_row setup worker number moment caller info (Some row) d h e =
+    let same = alive_caller info number moment row row.alive caller e in
+    record {
+      info = info; declared = d;
+      pid = ap (λ (c : Caller). c.sid.pid) (sym same) ∙ (h row refl).pid_is;
+      session = ap (λ (c : Caller). c.sid.session) (sym same) ∙ (h row refl).session;
+      number_is = ap (λ (c : Caller). c.number) (sym same);
+    }
+
+by_info : (setup : Setup) (t : Table) (worker number : ℕ) (moment : Moment) (caller : Caller) (o : Option WorkerInfo) → t.workers ≡ start_workers 1 setup.workers → declared_at setup.workers worker ≡ o
+    → option_and_then (λ info. option_and_then (caller_if_alive info number moment) ((view t).worker_of info.pid)) o ≡ Some caller → IsFirstCaller setup worker number moment caller
+by_info setup t worker number moment caller None w d e = absurd cc
+by_info setup t worker number moment caller (Some info) w d e =
+    by_row setup worker number moment caller info ((view t).worker_of info.pid) d
+        (λ row f. found_started setup.workers 1 info.pid row (ap (find (λ r. r.pid == info.pid)) (sym w) ∙ f)) e
+
+pub first_caller : (setup : Setup) (t : Table) (worker number : ℕ) (moment : Moment) (caller : Caller) → t.workers ≡ start_workers 1 setup.workers
+    → caller_of setup (view t) worker number moment ≡ Some caller → IsFirstCaller setup worker number moment caller
+unfolding caller_of
+first_caller setup t worker number moment caller w e = by_info setup t worker number moment caller (declared_at setup.workers worker) w refl e
