@@ -50,6 +50,11 @@ impl<T> Items<T> {
         self.list.as_slice()
     }
 
+    /// The allocator that the list was made with.
+    pub fn allocator(&self) -> Global {
+        *self.list.allocator()
+    }
+
     pub fn len(&self) -> usize
         ensures { result ≡ length self.now }
     {
@@ -75,11 +80,11 @@ impl<T: Drop> Items<T> {
 }
 
 impl<T: Copy> Items<T> {
-    pub fn copy(&self, alloc: Global) -> Result<Items<T>, OutOfMemory>
+    pub fn copy(&self) -> Result<Items<T>, OutOfMemory>
         ensures { IfOk result (λ items. items ≡ self.now) }
     {
         Ok(Items {
-            list: Vec::from_slice(alloc, self.list.as_slice())?,
+            list: Vec::from_slice(self.allocator(), self.list.as_slice())?,
         })
     }
 }

@@ -7,7 +7,7 @@ fn lists_and_texts_grow_at_the_end(rt: HostRuntime) -> Result<(), Fail> {
     assert!(rt; items.is_empty());
     items.push(7u32)?;
     items.push(8u32)?;
-    let copy = items.copy(rt.alloc())?;
+    let copy = items.copy()?;
     assert_eq!(rt; copy.len(), 2);
     assert_eq!(rt; copy.as_slice(), [7, 8].as_slice());
     let again = Items::from_vec(items.into_vec());
