@@ -30,5 +30,5 @@ loop-turn-preserved g c =
       taken = Consumes-added _ _ _ _ _ _ _ _ c.loop-turn.invariant.taken read.taken read.count c.in_ok-extend_from_slice.ensures.items;
       short = omega (arith, long, c.loop-turn.bytes.ok.0);
       turns = omega (arith, long, c.loop-turn.bytes.ok.0);
-      faults = omega (arith, read.faults)
+      faults = omega (arith, read.faults);
     }

@@ -7,5 +7,5 @@ loop-done-preserved g c =
     record {
       in_range = omega (arith, c.in_ok-done.ensures.count);
       written = Appends-next _ _ _ _ _ _ c.loop-done.invariant.written c.in_ok-done.ensures.added;
-      faults = omega (arith, c.in_ok-done.ensures.faults)
+      faults = omega (arith, c.in_ok-done.ensures.faults);
     }
