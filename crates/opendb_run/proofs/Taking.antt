@@ -1,7 +1,7 @@
 -- What a source lost by one read after another.
-use Rattle.std.proofs.Common.{◌≡◌, ℕ, ◌+◌, ◌≤◌, Option, None, Some, List, [], ◌++◌, length, take, drop, sym, ap, ◌∙◌, append-nil, length-append, arith}
+use Rattle.std.proofs.Common.{◌≡◌, ℕ, ◌+◌, ◌-◌, ◌≤◌, Option, None, Some, List, ◌++◌, length, take, drop, sym, ap, ◌∙◌, append-nil, length-append, length-drop, take-append-drop, zero-add, arith}
 use Rattle.std.proofs.KnownBytes.{Consumes-trans}
-use Rattle.std.proofs.lemmas.List.{take-append-le, length-take-le}
+use Rattle.std.proofs.lemmas.List.{take-append-le, length-take-le, take_all, drop-drop}
 use Rattle.std.specs.Io.KnownBytes.{Consumes, IsAtEnd}
 use Rattle.opendb_run.specs.Input.{TakesAll}
 
@@ -30,3 +30,13 @@ pub length-grown : (bytes more chunk rest : List ℕ) (count : ℕ) → count �
 length-grown bytes more chunk rest count within added =
     let same : more ≡ bytes ++ take count chunk = rw added (ap (λ l. bytes ++ l) (take-append-le count chunk rest within)) in
     rw same (length-added bytes chunk count within)
+
+-- the front of the bytes from a place on was copied to the front of a chunk
+pub take-copied : (seen bytes chunk : List ℕ) (at count : ℕ) → seen ≡ bytes → count + at ≤ length bytes
+    → take (0 + length (take count (take (length seen - at) (drop at seen)))) chunk ≡ take count (take (length seen - at) (drop at seen))
+    → drop at bytes ≡ take count chunk ++ drop (at + count) bytes
+take-copied seen bytes chunk at count same within copied =
+    let whole : take (length seen - at) (drop at seen) ≡ drop at seen = take_all _ _ (omega (arith, length-drop at seen)) in
+    let front : length (take count (drop at seen)) ≡ count = length-take-le count (drop at seen) (omega (arith, length-drop at seen, ap length same)) in
+    let there : take count chunk ≡ take count (drop at seen) = rw (whole, front, zero-add count) at copied in
+    rw (there, same) (sym (take-append-drop count (drop at bytes)) ∙ ap (λ l. take count (drop at bytes) ++ l) (drop-drop count at bytes))

@@ -1,5 +1,5 @@
 -- How a call of the program ended: its number, and what it says on standard error.
-use Rattle.std.specs.Prelude.{ℕ, List, [], ◌∷◌, ◌++◌, codes}
+use Rattle.std.specs.Prelude.{ℕ, List, [], ◌++◌, codes}
 use Rattle.std.specs.Fmt.{decimal}
 use Rattle.opendb_run.specs.declared.status.Status.{Status}
 use Rattle.opendb_run.specs.declared.status.Status.TheVariants.{Done, Usage, TooLarge, ReadFault, WriteFault, OutOfMemory, NotBuilt}

@@ -17,3 +17,6 @@ pub use memory::{Bytes, Page};
 pub use output::{write_all, write_decimal};
 pub use status::{Status, complain};
 pub use words::Command;
+
+#[cfg(test)]
+mod tests;

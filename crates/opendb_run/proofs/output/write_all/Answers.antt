@@ -1,4 +1,4 @@
-use Rattle.std.proofs.Common.{arith, length-drop, length-take}
+use Rattle.std.proofs.Common.{arith}
 use Rattle.opendb_run.proofs.Appending.{Appends-next}
 use Rattle.opendb_run.proofs.output.write_all.Goals as goal
 
