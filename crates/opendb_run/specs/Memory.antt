@@ -1,5 +1,9 @@
 -- A source and a sink in memory, as contracts see them.
-use Rattle.std.specs.Prelude.{ℕ, List}
+use Rattle.std.specs.Prelude.{ℕ, ◌+◌, ◌-◌, ◌^◌, min, List}
+
+-- a count after one more, which stays at the last number that 64 bits hold
+abbrev pub counted : ℕ → ℕ
+counted count = min (count + 1) (2 ^ 64 - 1)
 
 -- The bytes still to come, at most how many a read gives, and the numbers of the reads that fail;
 -- how many reads there were, and how many failed.

@@ -1,6 +1,8 @@
 -- How a call of the program ended: its number, and what it says on standard error.
 use Rattle.std.specs.Prelude.{ℕ, List, [], ◌++◌, codes}
 use Rattle.std.specs.Fmt.{decimal}
+use Rattle.opendb_run.specs.declared.input.InputError.{InputError}
+use Rattle.opendb_run.specs.declared.input.InputError.TheVariants.{TooLarge as InputTooLarge, ReadFault as InputReadFault, OutOfMemory as InputOutOfMemory}
 use Rattle.opendb_run.specs.declared.status.Status.{Status}
 use Rattle.opendb_run.specs.declared.status.Status.TheVariants.{Done, Usage, TooLarge, ReadFault, WriteFault, OutOfMemory, NotBuilt}
 
@@ -13,6 +15,12 @@ code_of ReadFault = 4
 code_of WriteFault = 5
 code_of OutOfMemory = 6
 code_of NotBuilt = 20
+
+-- how a call ends whose input wasn't read to its end
+abbrev pub status_of : InputError → Status
+status_of InputTooLarge = TooLarge
+status_of InputReadFault = ReadFault
+status_of InputOutOfMemory = OutOfMemory
 
 -- the line on standard error, given the number of the line that isn't built
 abbrev pub complaint : Status → ℕ → List ℕ

@@ -1,6 +1,6 @@
-ghost use Rattle.std.specs.Prelude.{◌≡◌, ◌+◌, ◌-◌, ◌^◌, ◌<◌, ◌≤◌, ◌↔◌, ◌⊎◌, ◌++◌, ℕ, List, [], Option, Some, Ok, min, take, drop, length, IsErr, Contains, IfOk, OnOk, OnErr};
+ghost use Rattle.std.specs.Prelude.{◌≡◌, ◌+◌, ◌-◌, ◌^◌, ◌<◌, ◌≤◌, ◌↔◌, ◌⊎◌, ◌++◌, ℕ, List, [], Option, Some, Ok, min, take, drop, length, is_ok, if◌then◌else◌, IsErr, Contains, IfOk, OnOk, OnErr};
 ghost use Rattle.sid_core.specs.Faults.{Rose};
-ghost use Rattle.opendb_run.specs.Memory.{Incoming, Outgoing};
+ghost use Rattle.opendb_run.specs.Memory.{Incoming, Outgoing, counted};
 
 use crate::schedule::Schedule;
 use sid_core::{Failed, OutOfMemory, Sink, Source};
@@ -59,10 +59,11 @@ impl Source for Bytes {
         ensures kept { OnErr result (self.new.rest ≡ self.old.rest) }
         ensures faults { self.old.failed ≤ self.new.failed }
 
-        // What a read from memory does beyond that.
-        ensures most { IfOk result (λ n. n ≤ self.old.most) }
-        ensures number { self.new.reads ≡ min (self.old.reads + 1) (2 ^ 64 - 1) }
+        // What a read from memory says beyond that.
+        ensures exact { IfOk result (λ n. n ≡ min (min (length self.old.rest) self.old.most) (length into.old)) }
         ensures fails { IsErr result ↔ Contains self.old.failing self.new.reads }
+        ensures reads { self.new.reads ≡ counted self.old.reads }
+        ensures counts { self.new.failed ≡ (if is_ok result then self.old.failed else counted self.old.failed) }
         ensures settings { (self.new.most ≡ self.old.most) × (self.new.failing ≡ self.old.failing) }
     {
         if self.schedule.next_fails() {
@@ -157,12 +158,12 @@ impl Sink for Page {
         ensures kept { OnErr result (self.new.bytes ≡ self.old.bytes) }
         ensures faults { self.old.failed ≤ self.new.failed }
 
-        // What a write to memory does beyond that.
-        ensures within { length self.new.bytes ≤ self.new.room }
-        ensures most { IfOk result (λ n. n ≤ self.old.most) }
-        ensures number { self.new.writes ≡ min (self.old.writes + 1) (2 ^ 64 - 1) }
+        // What a write to memory says beyond that.
+        ensures exact { IfOk result (λ n. n ≡ min (min (length from.now) self.old.most) (self.old.room - length self.old.bytes)) }
         ensures fails { IsErr result
             ↔ (Contains self.old.failing self.new.writes ⊎ (length self.old.bytes ≡ self.old.room)) }
+        ensures writes { self.new.writes ≡ counted self.old.writes }
+        ensures counts { self.new.failed ≡ (if is_ok result then self.old.failed else counted self.old.failed) }
         ensures settings { (self.new.room ≡ self.old.room) × (self.new.most ≡ self.old.most)
             × (self.new.failing ≡ self.old.failing) }
     {

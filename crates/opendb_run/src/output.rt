@@ -9,7 +9,7 @@ use sid_core::{Failed, Sink};
 /// Writes all of `bytes`, in as many writes as the sink wants. No bytes are no write.
 pub fn write_all<K: Sink>(sink: &mut K, bytes: &[u8]) -> Result<(), Failed>
     ensures written { OnOk result (Appends (K.written sink.old) (K.written sink.new) bytes.now) }
-    ensures cut { OnErr result (AppendsPrefix (K.written sink.old) (K.written sink.new) bytes.now) }
+    ensures prefix { AppendsPrefix (K.written sink.old) (K.written sink.new) bytes.now }
     ensures failed { OnErr result (Rose (K.faults sink.old) (K.faults sink.new)) }
     ensures faults { K.faults sink.old ≤ K.faults sink.new }
 {
@@ -23,6 +23,7 @@ pub fn write_all<K: Sink>(sink: &mut K, bytes: &[u8]) -> Result<(), Failed>
 /// Writes a number in decimal, and takes no memory.
 pub fn write_decimal<K: Sink>(sink: &mut K, number: u32) -> Result<(), Failed>
     ensures written { OnOk result (Appends (K.written sink.old) (K.written sink.new) (decimal number)) }
+    ensures prefix { AppendsPrefix (K.written sink.old) (K.written sink.new) (decimal number) }
     ensures failed { OnErr result (Rose (K.faults sink.old) (K.faults sink.new)) }
     ensures faults { K.faults sink.old ≤ K.faults sink.new }
 {
@@ -36,6 +37,7 @@ pub fn write_decimal<K: Sink>(sink: &mut K, number: u32) -> Result<(), Failed>
 fn write_digit<K: Sink>(sink: &mut K, digit: u8) -> Result<(), Failed>
     requires { digit < 10 }
     ensures written { OnOk result (Appends (K.written sink.old) (K.written sink.new) ((48 + digit) ∷ [])) }
+    ensures prefix { AppendsPrefix (K.written sink.old) (K.written sink.new) ((48 + digit) ∷ []) }
     ensures failed { OnErr result (Rose (K.faults sink.old) (K.faults sink.new)) }
     ensures faults { K.faults sink.old ≤ K.faults sink.new }
 {

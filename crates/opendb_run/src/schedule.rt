@@ -1,4 +1,5 @@
-ghost use Rattle.std.specs.Prelude.{◌≡◌, ◌+◌, ◌-◌, ◌^◌, ◌↔◌, min, IsTrue, Contains};
+ghost use Rattle.std.specs.Prelude.{◌≡◌, ◌↔◌, IsTrue, Contains};
+ghost use Rattle.opendb_run.specs.Memory.{counted};
 
 use sid_core::Failed;
 
@@ -25,7 +26,7 @@ impl Schedule {
 
     /// Counts a call, and says whether it is to fail.
     pub(crate) fn next_fails(&mut self) -> bool
-        ensures calls { self.new.calls ≡ min (self.old.calls + 1) (2 ^ 64 - 1) }
+        ensures calls { self.new.calls ≡ counted self.old.calls }
         ensures fails { IsTrue result ↔ Contains self.old.failing.items self.new.calls }
         ensures failing { self.new.failing.items ≡ self.old.failing.items }
         ensures faults { self.new.faults ≡ self.old.faults }
@@ -36,7 +37,7 @@ impl Schedule {
 
     /// Counts a fault.
     pub(crate) fn fail(&mut self) -> Failed
-        ensures faults { self.new.faults ≡ min (self.old.faults + 1) (2 ^ 64 - 1) }
+        ensures faults { self.new.faults ≡ counted self.old.faults }
         ensures calls { self.new.calls ≡ self.old.calls }
         ensures failing { self.new.failing.items ≡ self.old.failing.items }
     {

@@ -1,8 +1,10 @@
 ghost use Rattle.std.specs.Prelude.{◌≡◌, ◌≤◌, OnOk, OnErr};
 ghost use Rattle.std.specs.Io.KnownBytes.{Appends};
 ghost use Rattle.sid_core.specs.Faults.{Rose};
-ghost use Rattle.opendb_run.specs.Status.{code_of, complaint};
+ghost use Rattle.opendb_run.specs.Output.{AppendsPrefix};
+ghost use Rattle.opendb_run.specs.Status.{code_of, complaint, status_of};
 
+use crate::input::InputError;
 use crate::output::{write_all, write_decimal};
 use sid_core::{Failed, Sink};
 
@@ -42,11 +44,24 @@ impl Status {
     }
 }
 
+impl From<InputError> for Status {
+    ghost from_gives = { λ error status. status ≡ status_of error };
+
+    fn from(error: InputError) -> Status {
+        match error {
+            InputError::TooLarge => Status::TooLarge,
+            InputError::ReadFault => Status::ReadFault,
+            InputError::OutOfMemory => Status::OutOfMemory,
+        }
+    }
+}
+
 /// Tells on `err` why the program ended. `line` is the number of the line that isn't built, and is
 /// read for that status alone. A fault of `err` cuts the text short, and nothing else comes of it.
 pub fn complain<E: Sink>(err: &mut E, status: Status, line: u32)
     ensures text { ¬ (Rose (E.faults err.old) (E.faults err.new))
         → Appends (E.written err.old) (E.written err.new) (complaint status line) }
+    ensures prefix { AppendsPrefix (E.written err.old) (E.written err.new) (complaint status line) }
     ensures faults { E.faults err.old ≤ E.faults err.new }
 {
     let _ = try_complain(err, status, line);
@@ -54,6 +69,7 @@ pub fn complain<E: Sink>(err: &mut E, status: Status, line: u32)
 
 fn try_complain<E: Sink>(err: &mut E, status: Status, line: u32) -> Result<(), Failed>
     ensures text { OnOk result (Appends (E.written err.old) (E.written err.new) (complaint status line)) }
+    ensures prefix { AppendsPrefix (E.written err.old) (E.written err.new) (complaint status line) }
     ensures failed { OnErr result (Rose (E.faults err.old) (E.faults err.new)) }
     ensures faults { E.faults err.old ≤ E.faults err.new }
 {
@@ -70,6 +86,7 @@ fn try_complain<E: Sink>(err: &mut E, status: Status, line: u32) -> Result<(), F
 
 fn complain_of_line<E: Sink>(err: &mut E, line: u32) -> Result<(), Failed>
     ensures text { OnOk result (Appends (E.written err.old) (E.written err.new) (complaint Status.NotBuilt line)) }
+    ensures prefix { AppendsPrefix (E.written err.old) (E.written err.new) (complaint Status.NotBuilt line) }
     ensures failed { OnErr result (Rose (E.faults err.old) (E.faults err.new)) }
     ensures faults { E.faults err.old ≤ E.faults err.new }
 {
