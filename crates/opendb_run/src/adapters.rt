@@ -1,4 +1,6 @@
-ghost use Rattle.std.specs.Prelude.{◌≡◌, ℕ, Option, None};
+ghost use Rattle.std.specs.Prelude.{◌≡◌, ◌<◌, ◌≤◌, ℕ, Option, None, take, length, Ok, IfOk, OnErr};
+ghost use Rattle.std.specs.Io.KnownBytes.{Consumes, Appends, Keeps, IsAtEnd};
+ghost use Rattle.sid_core.specs.Faults.{Rose};
 
 use sid_core::{Failed, Sink, Source};
 use std::io::{Read, Write};
@@ -6,13 +8,14 @@ use std::io::{Read, Write};
 /// A reader of the system as a source. It tells no bytes. A read that is interrupted is a fault.
 #[derive(Debug, Drop)]
 pub struct RealSource<R> {
-    reader: R,
-    faults: u64,
+    pub reader: R,
+    /// How many reads have failed. It stays at its last value.
+    pub faults: u64,
 }
 
 impl<R: Read + Drop> RealSource<R> {
     pub fn new(reader: R) -> RealSource<R>
-        ensures { ⟦<RealSource<R> as Source>⟧.faults result ≡ 0 }
+        ensures { result ≡ record { reader = reader; faults = 0 } }
     {
         RealSource { reader, faults: 0 }
     }
@@ -23,7 +26,18 @@ impl<R: Read + Drop> Source for RealSource<R> {
 
     ghost faults = { λ source. source.faults };
 
-    fn read(&mut self, into: &mut [u8]) -> Result<usize, Failed> {
+    fn read(&mut self, into: &mut [u8]) -> Result<usize, Failed>
+        requires { 0 < length into.old }
+        ensures count { IfOk result (λ n. n ≤ length into.new) }
+        ensures failed { OnErr result (Rose self.old.faults self.new.faults) }
+        ensures faults { self.old.faults ≤ self.new.faults }
+
+        // Where the reader knows its bytes, they are what it gave.
+        ensures given { IfOk result (λ n.
+            Consumes (R.remaining self.old.reader) (R.remaining self.new.reader) (take n into.new)) }
+        ensures untouched { OnErr result (Keeps (R.remaining self.old.reader) (R.remaining self.new.reader)) }
+        ensures ended { result ≡ Ok 0 → IsAtEnd (R.remaining self.new.reader) }
+    {
         match self.reader.read(into) {
             Ok(count) => Ok(count),
             Err(_) => {
@@ -38,13 +52,14 @@ impl<R: Read + Drop> Source for RealSource<R> {
 /// nothing, is a fault.
 #[derive(Debug, Drop)]
 pub struct RealSink<W> {
-    writer: W,
-    faults: u64,
+    pub writer: W,
+    /// How many writes have failed. It stays at its last value.
+    pub faults: u64,
 }
 
 impl<W: Write + Drop> RealSink<W> {
     pub fn new(writer: W) -> RealSink<W>
-        ensures { ⟦<RealSink<W> as Sink>⟧.faults result ≡ 0 }
+        ensures { result ≡ record { writer = writer; faults = 0 } }
     {
         RealSink { writer, faults: 0 }
     }
@@ -55,7 +70,18 @@ impl<W: Write + Drop> Sink for RealSink<W> {
 
     ghost faults = { λ sink. sink.faults };
 
-    fn write(&mut self, from: &[u8]) -> Result<usize, Failed> {
+    fn write(&mut self, from: &[u8]) -> Result<usize, Failed>
+        requires { 0 < length from.now }
+        ensures some { IfOk result (λ n. 0 < n) }
+        ensures count { IfOk result (λ n. n ≤ length from.now) }
+        ensures failed { OnErr result (Rose self.old.faults self.new.faults) }
+        ensures faults { self.old.faults ≤ self.new.faults }
+
+        // Where the writer knows its bytes, they are what it was given.
+        ensures passed { IfOk result (λ n.
+            Appends (W.contents self.old.writer) (W.contents self.new.writer) (take n from.now)) }
+        ensures untouched { OnErr result (Keeps (W.contents self.old.writer) (W.contents self.new.writer)) }
+    {
         match self.writer.write(from) {
             Ok(count) if count > 0 => Ok(count),
             _ => {

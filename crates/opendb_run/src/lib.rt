@@ -14,7 +14,7 @@ pub use adapters::{RealSink, RealSource};
 pub use gate::Open;
 pub use input::{InputError, LIMIT, read_all};
 pub use memory::{Bytes, Page};
-pub use output::{write_all, write_decimal};
+pub use output::write_all;
 pub use status::{Status, complain};
 pub use words::Command;
 

@@ -21,7 +21,7 @@ pub fn write_all<K: Sink>(sink: &mut K, bytes: &[u8]) -> Result<(), Failed>
 }
 
 /// Writes a number in decimal, and takes no memory.
-pub fn write_decimal<K: Sink>(sink: &mut K, number: u32) -> Result<(), Failed>
+pub(crate) fn write_decimal<K: Sink>(sink: &mut K, number: u32) -> Result<(), Failed>
     ensures written { OnOk result (Appends (K.written sink.old) (K.written sink.new) (decimal number)) }
     ensures prefix { AppendsPrefix (K.written sink.old) (K.written sink.new) (decimal number) }
     ensures failed { OnErr result (Rose (K.faults sink.old) (K.faults sink.new)) }
