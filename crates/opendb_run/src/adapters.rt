@@ -33,9 +33,10 @@ impl<R: Read + Drop> Source for RealSource<R> {
         ensures faults { self.old.faults ≤ self.new.faults }
 
         // Where the reader knows its bytes, they are what it gave.
-        ensures given { IfOk result (λ n.
-            Consumes (R.remaining self.old.reader) (R.remaining self.new.reader) (take n into.new)) }
-        ensures untouched { OnErr result (Keeps (R.remaining self.old.reader) (R.remaining self.new.reader)) }
+        ensures given { IfOk result (λ n. Consumes
+            (R.remaining self.old.reader) (R.remaining self.new.reader) (take n into.new)) }
+        ensures untouched { OnErr result
+            (Keeps (R.remaining self.old.reader) (R.remaining self.new.reader)) }
         ensures ended { result ≡ Ok 0 → IsAtEnd (R.remaining self.new.reader) }
     {
         match self.reader.read(into) {
@@ -78,9 +79,10 @@ impl<W: Write + Drop> Sink for RealSink<W> {
         ensures faults { self.old.faults ≤ self.new.faults }
 
         // Where the writer knows its bytes, they are what it was given.
-        ensures passed { IfOk result (λ n.
-            Appends (W.contents self.old.writer) (W.contents self.new.writer) (take n from.now)) }
-        ensures untouched { OnErr result (Keeps (W.contents self.old.writer) (W.contents self.new.writer)) }
+        ensures passed { IfOk result (λ n. Appends
+            (W.contents self.old.writer) (W.contents self.new.writer) (take n from.now)) }
+        ensures untouched { OnErr result
+            (Keeps (W.contents self.old.writer) (W.contents self.new.writer)) }
     {
         match self.writer.write(from) {
             Ok(count) if count > 0 => Ok(count),

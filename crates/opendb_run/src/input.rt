@@ -41,10 +41,12 @@ impl From<AllocError> for InputError {
 
 /// Reads the source to its end, in time that is linear in the bytes, however few a read gives.
 pub fn read_all<S: Source>(alloc: Global, source: &mut S) -> Result<Vec<u8>, InputError>
-    ensures whole { IfOk result (λ bytes. TakesAll (S.left source.old) (S.left source.new) bytes.items) }
+    ensures whole { IfOk result (λ bytes.
+        TakesAll (S.left source.old) (S.left source.new) bytes.items) }
     ensures short { IfOk result (λ bytes. length bytes.items ≤ LIMIT) }
     ensures taken { IfErr result (TakesBefore (S.left source.old) (S.left source.new)) }
-    ensures failed { IsErrOf result InputError.ReadFault → Rose (S.faults source.old) (S.faults source.new) }
+    ensures failed { IsErrOf result InputError.ReadFault
+        → Rose (S.faults source.old) (S.faults source.new) }
     ensures refused { ¬ (Rose (S.faults source.old) (S.faults source.new))
         → IfErr result (λ error. IfSome (S.left source.old) (Refuses error)) }
     ensures faults { S.faults source.old ≤ S.faults source.new }

@@ -31,10 +31,16 @@ impl Model for Bytes {
 }
 
 impl Bytes {
-    /// Gives at most `most` bytes a read, and fails at the reads whose numbers, from 1, are in `failing`.
+    /// Gives at most `most` bytes a read. It fails at the reads whose numbers, from 1, are in `failing`.
     pub fn new(bytes: Vec<u8>, most: usize, failing: Vec<u64>) -> Bytes
         requires { 1 ≤ most }
-        ensures { result ≡ record { rest = bytes.items; most = most; failing = failing.items; reads = 0; failed = 0 } }
+        ensures { result ≡ record {
+          rest = bytes.items;
+          most = most;
+          failing = failing.items;
+          reads = 0;
+          failed = 0;
+        } }
     {
         Bytes {
             bytes,
@@ -60,10 +66,12 @@ impl Source for Bytes {
         ensures faults { self.old.failed ≤ self.new.failed }
 
         // What a read from memory says beyond that.
-        ensures exact { IfOk result (λ n. n ≡ min (min (length self.old.rest) self.old.most) (length into.old)) }
+        ensures exact { IfOk result (λ n.
+            n ≡ min (min (length self.old.rest) self.old.most) (length into.old)) }
         ensures fails { IsErr result ↔ Contains self.old.failing self.new.reads }
         ensures reads { self.new.reads ≡ counted self.old.reads }
-        ensures counts { self.new.failed ≡ (if is_ok result then self.old.failed else counted self.old.failed) }
+        ensures counts { self.new.failed
+            ≡ (if is_ok result then self.old.failed else counted self.old.failed) }
         ensures settings { (self.new.most ≡ self.old.most) × (self.new.failing ≡ self.old.failing) }
     {
         if self.schedule.next_fails() {
@@ -159,11 +167,13 @@ impl Sink for Page {
         ensures faults { self.old.failed ≤ self.new.failed }
 
         // What a write to memory says beyond that.
-        ensures exact { IfOk result (λ n. n ≡ min (min (length from.now) self.old.most) (self.old.room - length self.old.bytes)) }
-        ensures fails { IsErr result
-            ↔ (Contains self.old.failing self.new.writes ⊎ (length self.old.bytes ≡ self.old.room)) }
+        ensures exact { IfOk result (λ n. n ≡ min (min (length from.now) self.old.most)
+            (self.old.room - length self.old.bytes)) }
+        ensures fails { IsErr result ↔ (Contains self.old.failing self.new.writes
+            ⊎ (length self.old.bytes ≡ self.old.room)) }
         ensures writes { self.new.writes ≡ counted self.old.writes }
-        ensures counts { self.new.failed ≡ (if is_ok result then self.old.failed else counted self.old.failed) }
+        ensures counts { self.new.failed
+            ≡ (if is_ok result then self.old.failed else counted self.old.failed) }
         ensures settings { (self.new.room ≡ self.old.room) × (self.new.most ≡ self.old.most)
             × (self.new.failing ≡ self.old.failing) }
     {

@@ -22,7 +22,8 @@ pub fn write_all<K: Sink>(sink: &mut K, bytes: &[u8]) -> Result<(), Failed>
 
 /// Writes a number in decimal, and takes no memory.
 pub(crate) fn write_decimal<K: Sink>(sink: &mut K, number: u32) -> Result<(), Failed>
-    ensures written { OnOk result (Appends (K.written sink.old) (K.written sink.new) (decimal number)) }
+    ensures written { OnOk result
+        (Appends (K.written sink.old) (K.written sink.new) (decimal number)) }
     ensures prefix { AppendsPrefix (K.written sink.old) (K.written sink.new) (decimal number) }
     ensures failed { OnErr result (Rose (K.faults sink.old) (K.faults sink.new)) }
     ensures faults { K.faults sink.old ≤ K.faults sink.new }
@@ -36,7 +37,8 @@ pub(crate) fn write_decimal<K: Sink>(sink: &mut K, number: u32) -> Result<(), Fa
 
 fn write_digit<K: Sink>(sink: &mut K, digit: u8) -> Result<(), Failed>
     requires { digit < 10 }
-    ensures written { OnOk result (Appends (K.written sink.old) (K.written sink.new) ((48 + digit) ∷ [])) }
+    ensures written { OnOk result
+        (Appends (K.written sink.old) (K.written sink.new) ((48 + digit) ∷ [])) }
     ensures prefix { AppendsPrefix (K.written sink.old) (K.written sink.new) ((48 + digit) ∷ []) }
     ensures failed { OnErr result (Rose (K.faults sink.old) (K.faults sink.new)) }
     ensures faults { K.faults sink.old ≤ K.faults sink.new }

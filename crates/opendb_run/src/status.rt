@@ -68,7 +68,8 @@ pub fn complain<E: Sink>(err: &mut E, status: Status, line: u32)
 }
 
 fn try_complain<E: Sink>(err: &mut E, status: Status, line: u32) -> Result<(), Failed>
-    ensures text { OnOk result (Appends (E.written err.old) (E.written err.new) (complaint status line)) }
+    ensures text { OnOk result
+        (Appends (E.written err.old) (E.written err.new) (complaint status line)) }
     ensures prefix { AppendsPrefix (E.written err.old) (E.written err.new) (complaint status line) }
     ensures failed { OnErr result (Rose (E.faults err.old) (E.faults err.new)) }
     ensures faults { E.faults err.old ≤ E.faults err.new }
@@ -85,8 +86,10 @@ fn try_complain<E: Sink>(err: &mut E, status: Status, line: u32) -> Result<(), F
 }
 
 fn complain_of_line<E: Sink>(err: &mut E, line: u32) -> Result<(), Failed>
-    ensures text { OnOk result (Appends (E.written err.old) (E.written err.new) (complaint Status.NotBuilt line)) }
-    ensures prefix { AppendsPrefix (E.written err.old) (E.written err.new) (complaint Status.NotBuilt line) }
+    ensures text { OnOk result
+        (Appends (E.written err.old) (E.written err.new) (complaint Status.NotBuilt line)) }
+    ensures prefix { AppendsPrefix (E.written err.old) (E.written err.new)
+        (complaint Status.NotBuilt line) }
     ensures failed { OnErr result (Rose (E.faults err.old) (E.faults err.new)) }
     ensures faults { E.faults err.old ≤ E.faults err.new }
 {

@@ -11,7 +11,8 @@ pub enum Command {
 impl Command {
     ghost use Rattle.opendb_run.specs.Words.{command};
 
-    /// What the words after the program's name ask for, if they are those of a command. Takes no memory.
+    /// What the words after the program's name ask for, if they are those of a command. Takes no
+    /// memory.
     pub fn from_words(words: &[String]) -> Option<Command>
         ensures { result ≡ command (map string_bytes words.now) }
     {
