@@ -1,0 +1,5 @@
+pub mod Input
+pub mod Memory
+pub mod Output
+pub mod Status
+pub mod Words

@@ -1,0 +1,22 @@
+//! The top call of the open-file databases: what stands round the run of a script.
+#![tactic(auto)]
+
+mod adapters;
+mod gate;
+mod input;
+mod memory;
+mod output;
+mod schedule;
+mod status;
+mod words;
+
+pub use adapters::{RealSink, RealSource};
+pub use gate::Open;
+pub use input::{InputError, LIMIT, read_all};
+pub use memory::{Bytes, Page};
+pub use output::write_all;
+pub use status::{Status, complain};
+pub use words::Command;
+
+#[cfg(test)]
+mod tests;

@@ -1,0 +1,47 @@
+ghost use Rattle.std.specs.Prelude.{◌≡◌, ◌+◌, ◌<◌, ◌≤◌, [], ◌∷◌, OnOk, OnErr};
+ghost use Rattle.std.specs.Fmt.{decimal};
+ghost use Rattle.std.specs.Io.KnownBytes.{Appends};
+ghost use Rattle.sid_core.specs.Faults.{Rose};
+ghost use Rattle.opendb_run.specs.Output.{AppendsPrefix};
+
+use sid_core::{Failed, Sink};
+
+/// Writes all of `bytes`, in as many writes as the sink wants. No bytes are no write.
+pub fn write_all<K: Sink>(sink: &mut K, bytes: &[u8]) -> Result<(), Failed>
+    ensures written { OnOk result (Appends (K.written sink.old) (K.written sink.new) bytes.now) }
+    ensures prefix { AppendsPrefix (K.written sink.old) (K.written sink.new) bytes.now }
+    ensures failed { OnErr result (Rose (K.faults sink.old) (K.faults sink.new)) }
+    ensures faults { K.faults sink.old ≤ K.faults sink.new }
+{
+    let mut done = 0;
+    while done < bytes.len() {
+        done += sink.write(&bytes[done..])?;
+    }
+    Ok(())
+}
+
+/// Writes a number in decimal, and takes no memory.
+pub(crate) fn write_decimal<K: Sink>(sink: &mut K, number: u32) -> Result<(), Failed>
+    ensures written { OnOk result
+        (Appends (K.written sink.old) (K.written sink.new) (decimal number)) }
+    ensures prefix { AppendsPrefix (K.written sink.old) (K.written sink.new) (decimal number) }
+    ensures failed { OnErr result (Rose (K.faults sink.old) (K.faults sink.new)) }
+    ensures faults { K.faults sink.old ≤ K.faults sink.new }
+{
+    if number < 10 {
+        return write_digit(sink, number as u8);
+    }
+    write_decimal(sink, number / 10)?;
+    write_digit(sink, (number % 10) as u8)
+}
+
+fn write_digit<K: Sink>(sink: &mut K, digit: u8) -> Result<(), Failed>
+    requires { digit < 10 }
+    ensures written { OnOk result
+        (Appends (K.written sink.old) (K.written sink.new) ((48 + digit) ∷ [])) }
+    ensures prefix { AppendsPrefix (K.written sink.old) (K.written sink.new) ((48 + digit) ∷ []) }
+    ensures failed { OnErr result (Rose (K.faults sink.old) (K.faults sink.new)) }
+    ensures faults { K.faults sink.old ≤ K.faults sink.new }
+{
+    write_all(sink, &[b'0' + digit])
+}
