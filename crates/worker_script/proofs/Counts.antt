@@ -1,0 +1,70 @@
+-- The planned calls, when one more is planned.
+use Rattle.std.proofs.Common.{◌≡◌, ℕ, ◌+◌, ◌≤◌, Bool, true, false, cond, eqb, List, [], ◌∷◌, ◌++◌, length, Option, Some, None, refl, ap, sym, ◌∙◌, append_assoc, length-append, arith}
+use Rattle.std.proofs.lemmas.Bool.Decides.{nat_tests}
+use Rattle.std.specs.Option.{option_to_list, IsSome}
+use Rattle.worker_script.specs.declared.script.Planned.{Planned}
+use Rattle.worker_script.specs.declared.script.Phase.{Phase}
+use Rattle.worker_script.specs.Script.{all_calls, own_number, numbers_of}
+use Rattle.worker_script.specs.Lines.{with_planned}
+
+pub append-nil : {X : Type 0} (xs : List X) → xs ++ [] ≡ xs
+append-nil [] = refl
+append-nil (x ∷ xs) = ap (λ ys. x ∷ ys) (append-nil xs)
+
+pub all_calls-append : (xs ys : List Phase) → all_calls (xs ++ ys) ≡ all_calls xs ++ all_calls ys
+all_calls-append [] ys = refl
+all_calls-append (x ∷ xs) ys = ap (λ zs. x.calls ++ zs) (all_calls-append xs ys) ∙ sym (append_assoc x.calls (all_calls xs) (all_calls ys))
+
+pub numbers_of-append : (worker : ℕ) (xs ys : List Planned) → numbers_of worker (xs ++ ys) ≡ numbers_of worker xs ++ numbers_of worker ys
+numbers_of-append worker [] ys = refl
+numbers_of-append worker (x ∷ xs) ys = rw (numbers_of-append worker xs ys) (sym (append_assoc (own_number worker x) (numbers_of worker xs) (numbers_of worker ys)))
+
+-- The call stands behind all others.
+pub all_calls-push : (phases : List Phase) (current : Option Phase) (planned : Planned) → IsSome current
+    → all_calls (phases ++ option_to_list (with_planned current planned)) ≡ all_calls (phases ++ option_to_list current) ++ planned ∷ []
+all_calls-push phases None planned some = cc
+all_calls-push phases (Some phase) planned some = simp (all_calls-append, append-nil, append_assoc)
+
+pub planned-more : (phases : List Phase) (current : Option Phase) (planned : Planned) → IsSome current
+    → length (all_calls (phases ++ option_to_list (with_planned current planned))) ≡ length (all_calls (phases ++ option_to_list current)) + 1
+planned-more phases current planned some = rw (all_calls-push phases current planned some) (simp length-append)
+
+own_number-own : (worker : ℕ) (planned : Planned) → planned.worker ≡ worker → own_number worker planned ≡ planned.number ∷ []
+own_number-own worker planned own = grind (arith, nat_tests)
+
+-- It is its worker's last.
+pub numbers-push : (worker : ℕ) (phases : List Phase) (current : Option Phase) (planned : Planned) → IsSome current → planned.worker ≡ worker
+    → numbers_of worker (all_calls (phases ++ option_to_list (with_planned current planned)))
+    ≡ numbers_of worker (all_calls (phases ++ option_to_list current)) ++ planned.number ∷ []
+numbers-push worker phases current planned some own =
+    rw (all_calls-push phases current planned some, numbers_of-append, own_number-own worker planned own) refl
+
+pub numbers-more : (worker : ℕ) (phases : List Phase) (current : Option Phase) (planned : Planned) → IsSome current → planned.worker ≡ worker
+    → length (numbers_of worker (all_calls (phases ++ option_to_list (with_planned current planned))))
+    ≡ length (numbers_of worker (all_calls (phases ++ option_to_list current))) + 1
+numbers-more worker phases current planned some own = rw (numbers-push worker phases current planned some own) (simp length-append)
+
+own_number-other : (worker : ℕ) (planned : Planned) → eqb planned.worker worker ≡ false → own_number worker planned ≡ []
+own_number-other worker planned other = rw other refl
+
+-- The calls of other workers stay.
+pub numbers-others : (worker : ℕ) (phases : List Phase) (current : Option Phase) (planned : Planned) → IsSome current → eqb planned.worker worker ≡ false
+    → numbers_of worker (all_calls (phases ++ option_to_list (with_planned current planned)))
+    ≡ numbers_of worker (all_calls (phases ++ option_to_list current))
+numbers-others worker phases current planned some other =
+    rw (all_calls-push phases current planned some, numbers_of-append, own_number-other worker planned other) (append-nil _)
+
+own-few : (n : ℕ) (b : Bool) (ns : List ℕ) → length (cond b (n ∷ []) [] ++ ns) ≤ 1 + length ns
+own-few n true ns = omega arith
+own-few n false ns = omega arith
+
+-- No worker has more calls than there are.
+pub numbers-few : (worker : ℕ) (calls : List Planned) → length (numbers_of worker calls) ≤ length calls
+numbers-few worker [] = omega arith
+numbers-few worker (planned ∷ calls) =
+    let own = own-few planned.number (eqb planned.worker worker) (numbers_of worker calls) in
+    let others = numbers-few worker calls in omega arith
+
+-- A new phase has no calls.
+pub all_calls-new : (phases : List Phase) (phase : Phase) → phase.calls ≡ [] → all_calls (phases ++ phase ∷ []) ≡ all_calls phases
+all_calls-new phases phase none = rw (all_calls-append, none) (append-nil _)

@@ -1,0 +1,8 @@
+pub mod Parts
+pub mod Values
+pub mod Counts
+pub mod Lists
+pub mod Facts
+pub mod Sound
+pub mod SoundCalls
+pub mod SoundText

@@ -1,0 +1,10 @@
+pub mod Script
+pub mod Fits
+pub mod Text
+pub mod Values
+pub mod Lines
+pub mod Reading
+pub mod Search
+pub mod Reader
+pub mod Numbers
+pub mod Answer

@@ -1,0 +1,178 @@
+-- What each line of a script does, and what makes it bad.
+use Rattle.std.specs.Prelude.{ℕ, ◌+◌, ◌-◌, ◌^◌, Bool, false, not, cond, ◌==◌, ◌&&◌, nat_le, nat_lt, List, [], ◌∷◌, ◌++◌, length, Option, Some, None, is_some, is_none, unwrap_or, Result, Ok, Err}
+use Rattle.std.specs.List.{list_any}
+use Rattle.std.specs.Option.{option_to_list}
+use Rattle.sid_core.specs.declared.call.Call.{Call}
+use Rattle.sid_core.specs.declared.call.Call.TheVariants.{OpenFile, Close}
+use Rattle.sid_core.specs.declared.setup.WorkerInfo.{WorkerInfo}
+use Rattle.sid_core.specs.declared.setup.FileInfo.{FileInfo}
+use Rattle.worker_script.specs.declared.script.Planned.{Planned}
+use Rattle.worker_script.specs.declared.script.Phase.{Phase}
+use Rattle.worker_script.specs.declared.script.Script.{Script}
+use Rattle.worker_script.specs.Script.{all_calls, numbers_of}
+use Rattle.worker_script.specs.Text.{token}
+use Rattle.worker_script.specs.Values.{value, is_number, is_u32, is_u64, is_short, access, share}
+
+-- What the lines so far say: what they declare, the phases that are over, and the one that calls go to.
+pub record Draft : Type 0 where
+  pub workers : List WorkerInfo
+  pub files : List FileInfo
+  pub phases : List Phase
+  pub current : Option Phase
+
+abbrev pub nothing : Draft
+nothing = record { workers = []; files = []; phases = []; current = None }
+
+abbrev pub phases_of : Draft → List Phase
+phases_of draft = draft.phases ++ option_to_list draft.current
+
+abbrev pub script_of : Draft → Script
+script_of draft = record { setup = record { workers = draft.workers; files = draft.files }; phases = phases_of draft }
+
+abbrev pub planned_in : Draft → List Planned
+planned_in draft = all_calls (phases_of draft)
+
+-- A fault that a line may have: its reason, and whether the line has it. Of those that it has, the one
+-- with the least reason is told.
+abbrev pub first_fault : List (ℕ × Bool) → Option ℕ
+first_fault [] = None
+first_fault (fault ∷ faults) = cond fault.1 (Some fault.0) (first_fault faults)
+
+abbrev pub checked : Option ℕ → Draft → Result Draft ℕ
+checked None draft = Ok draft
+checked (Some reason) draft = Err reason
+
+-- `worker W PID UID GUID MACHINE SHARE`
+abbrev pub are_worker_numbers : List (List ℕ) → Bool
+are_worker_numbers ts = is_u32 (token 1 ts) && is_number 1 (2 ^ 32 - 1) (token 2 ts) && is_u32 (token 3 ts) && is_u64 (token 4 ts)
+
+unfoldable pub worker_fault : Draft → List (List ℕ) → Option ℕ
+worker_fault draft ts = first_fault (
+    (3, not (length ts == 7))
+    ∷ (4, not (are_worker_numbers ts))
+    ∷ (5, is_some draft.current)
+    ∷ (6, not (value (token 1 ts) == length draft.workers + 1))
+    ∷ (7, nat_le 64 (length draft.workers))
+    ∷ (12, list_any (λ worker. worker.pid == value (token 2 ts)) draft.workers)
+    ∷ (14, not (is_short (token 5 ts) && is_short (token 6 ts)))
+    ∷ [])
+
+abbrev pub worker_info : List (List ℕ) → WorkerInfo
+worker_info ts = record {
+  pid = value (token 2 ts);
+  uid = value (token 3 ts);
+  guid = value (token 4 ts);
+  machine = token 5 ts;
+  share = token 6 ts;
+}
+
+unfoldable pub worker_line : Draft → List (List ℕ) → Result Draft ℕ
+worker_line draft ts =
+    checked (worker_fault draft ts) (record draft { workers = draft.workers ++ worker_info ts ∷ [] })
+
+-- `file F DEV INODE PATH NAME`
+abbrev pub are_file_numbers : List (List ℕ) → Bool
+are_file_numbers ts = is_u32 (token 1 ts) && is_u64 (token 2 ts) && is_u64 (token 3 ts)
+
+abbrev pub is_place : ℕ → ℕ → FileInfo → Bool
+is_place dev inode file = (file.dev == dev) && (file.inode == inode)
+
+unfoldable pub file_fault : Draft → List (List ℕ) → Option ℕ
+file_fault draft ts = first_fault (
+    (3, not (length ts == 6))
+    ∷ (4, not (are_file_numbers ts))
+    ∷ (5, is_some draft.current)
+    ∷ (6, not (value (token 1 ts) == length draft.files + 1))
+    ∷ (8, nat_le 10000 (length draft.files))
+    ∷ (13, list_any (is_place (value (token 2 ts)) (value (token 3 ts))) draft.files)
+    ∷ (14, not (is_short (token 4 ts) && is_short (token 5 ts)))
+    ∷ [])
+
+abbrev pub file_info : List (List ℕ) → FileInfo
+file_info ts = record { dev = value (token 2 ts); inode = value (token 3 ts); path = token 4 ts; name = token 5 ts }
+
+unfoldable pub file_line : Draft → List (List ℕ) → Result Draft ℕ
+file_line draft ts = checked (file_fault draft ts) (record draft { files = draft.files ++ file_info ts ∷ [] })
+
+-- `phase MOMENT`
+abbrev pub moment_of : Option Phase → ℕ
+moment_of None = 0
+moment_of (Some phase) = phase.moment.0
+
+unfoldable pub phase_fault : Draft → List (List ℕ) → Option ℕ
+phase_fault draft ts = first_fault (
+    (3, not (length ts == 2))
+    ∷ (4, not (is_number 0 9999999999 (token 1 ts)))
+    ∷ (9, nat_le 10000 (length (phases_of draft)))
+    ∷ (15, nat_lt (value (token 1 ts)) (moment_of draft.current))
+    ∷ [])
+
+abbrev pub new_phase : ℕ → Phase
+new_phase moment = record { moment = record { 0 = moment }; calls = [] }
+
+unfoldable pub phase_line : Draft → List (List ℕ) → Result Draft ℕ
+phase_line draft ts =
+    checked (phase_fault draft ts) (record draft { phases = phases_of draft; current = Some (new_phase (value (token 1 ts))) })
+
+-- a number of one of the things that are declared, counted from 1
+abbrev pub is_declared : {X : Type 0} → List X → ℕ → Bool
+is_declared declared number = nat_le 1 number && nat_le number (length declared)
+
+-- what makes any call line bad, of this worker
+abbrev pub caller_faults : Draft → ℕ → List (ℕ × Bool)
+caller_faults draft worker =
+    (10, nat_le 20000 (length (planned_in draft)))
+    ∷ (16, is_none draft.current)
+    ∷ (17, not (is_declared draft.workers worker))
+    ∷ []
+
+-- Calls of other workers than the first aren't built.
+abbrev pub other_caller : ℕ → ℕ × Bool
+other_caller worker = (25, not (worker == 1))
+
+-- `W open F ACCESS SHARE`
+unfoldable pub open_fault : Draft → List (List ℕ) → Option ℕ
+open_fault draft ts = first_fault (
+    (3, not (length ts == 5))
+    ∷ (4, not (is_u32 (token 0 ts) && is_u32 (token 2 ts)))
+    ∷ caller_faults draft (value (token 0 ts))
+    ++ (19, not (is_declared draft.files (value (token 2 ts))))
+    ∷ (20, is_none (access (token 3 ts)))
+    ∷ (21, is_none (share (token 4 ts)))
+    ∷ other_caller (value (token 0 ts))
+    ∷ [])
+
+abbrev pub open_call : List (List ℕ) → Call
+open_call ts = OpenFile (value (token 2 ts)) (record { 0 = unwrap_or (access (token 3 ts)) 0 }) (record { 0 = unwrap_or (share (token 4 ts)) 0 }) None 0 false
+
+-- `W close HANDLE`
+unfoldable pub close_fault : Draft → List (List ℕ) → Option ℕ
+close_fault draft ts = first_fault (
+    (3, not (length ts == 3))
+    ∷ (4, not (is_u32 (token 0 ts) && is_u32 (token 2 ts)))
+    ∷ caller_faults draft (value (token 0 ts))
+    ++ other_caller (value (token 0 ts))
+    ∷ [])
+
+abbrev pub close_call : List (List ℕ) → Call
+close_call ts = Close (value (token 2 ts))
+
+-- a call as the last of its phase, and the next of its worker
+abbrev pub with_planned : Option Phase → Planned → Option Phase
+with_planned None planned = None
+with_planned (Some phase) planned = Some (record phase { calls = phase.calls ++ planned ∷ [] })
+
+abbrev pub next_number : Draft → ℕ → ℕ
+next_number draft worker = length (numbers_of worker (planned_in draft)) + 1
+
+abbrev pub planned_of : Draft → ℕ → Call → Planned
+planned_of draft worker call = record { worker = worker; number = next_number draft worker; call = call; stop = None }
+
+abbrev pub with_call : Draft → ℕ → Call → Draft
+with_call draft worker call = record draft { current = with_planned draft.current (planned_of draft worker call) }
+
+unfoldable pub open_line : Draft → List (List ℕ) → Result Draft ℕ
+open_line draft ts = checked (open_fault draft ts) (with_call draft (value (token 0 ts)) (open_call ts))
+
+unfoldable pub close_line : Draft → List (List ℕ) → Result Draft ℕ
+close_line draft ts = checked (close_fault draft ts) (with_call draft (value (token 0 ts)) (close_call ts))

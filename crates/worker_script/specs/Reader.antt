@@ -1,0 +1,40 @@
+-- What a reader keeps of the lines so far.
+use Rattle.std.specs.Prelude.{◌≡◌, ℕ, ◌≤◌, length, Option, Some, None, Result, Ok, Err}
+use Rattle.std.specs.declared.cmp.Ordering.{Ordering}
+use Rattle.std.specs.List.{list_any}
+use Rattle.std.specs.BTreeSet.{contains}
+use Rattle.std.specs.Ordering.{nat_cmp, ordering_then}
+use Rattle.worker_script.specs.declared.fault.Fault.{Fault}
+use Rattle.worker_script.specs.declared.fault.Fault.TheVariants.{Bad, NoMemory}
+use Rattle.worker_script.specs.declared.reader.Reader.{Reader}
+use Rattle.worker_script.specs.Lines.{Draft, planned_in, is_place}
+use Rattle.worker_script.specs.Script.{numbers_of}
+
+abbrev pub draft_of : Reader → Draft
+draft_of reader = record { workers = reader.workers; files = reader.files; phases = reader.phases; current = reader.current }
+
+-- by device, then by inode
+abbrev pub place_cmp : ℕ × ℕ → ℕ × ℕ → Ordering
+place_cmp a b = ordering_then (nat_cmp a.0 b.0) (nat_cmp a.1 b.1)
+
+-- Beside what the lines say: where the files are, and how many calls there are.
+pub record IsReader (reader : Reader) : Type 0 where
+  pub few_workers : length reader.workers ≤ 64
+  pub few_files : length reader.files ≤ 10000
+  pub few_phases : length reader.phases ≤ 10000
+  pub places : (place : ℕ × ℕ) → contains place_cmp reader.places place ≡ list_any (is_place place.0 place.1) reader.files
+  pub calls : reader.calls ≡ length (planned_in (draft_of reader))
+  pub few_calls : reader.calls ≤ 20000
+  pub made : reader.made ≡ length (numbers_of 1 (planned_in (draft_of reader)))
+  pub few_made : reader.made ≤ reader.calls
+
+-- Which fault was found, or what the line's numbers are.
+abbrev pub Finds : {X : Type 0} → Option ℕ → X → Result X ℕ → Type 0
+Finds fault numbers (Ok found) = (fault ≡ None) × (found ≡ numbers)
+Finds fault numbers (Err reason) = fault ≡ Some reason
+
+-- A line's answer, and what the reader keeps after it. Where memory ran out, nothing is known.
+abbrev pub Reads : {X : Type 0} → Result Draft ℕ → Reader → Result X Fault → Type 0
+Reads answer after (Ok x) = (answer ≡ Ok (draft_of after)) × IsReader after
+Reads answer after (Err (Bad reason)) = answer ≡ Err reason
+Reads answer after (Err NoMemory) = Unit {0}

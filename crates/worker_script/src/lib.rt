@@ -1,0 +1,22 @@
+//! The reader of scripts: which workers and files there are, and which calls the workers make in each phase.
+#![tactic(auto)]
+
+mod access;
+mod calls;
+mod error;
+mod fault;
+mod file;
+mod number;
+mod parsing;
+mod phase;
+mod reader;
+mod script;
+mod text;
+mod worker;
+
+pub use error::Parse;
+pub use parsing::parse;
+pub use script::{Phase, Planned, Script};
+
+#[cfg(test)]
+mod tests;

@@ -1,0 +1,80 @@
+ghost use Rattle.std.specs.Prelude.{◌≡◌, ◌<◌, ◌++◌, IfOk, OnOk, length};
+ghost use Rattle.std.specs.Option.{option_to_list};
+ghost use Rattle.worker_script.specs.Text.{tokens, token};
+ghost use Rattle.worker_script.specs.Values.{value};
+ghost use Rattle.worker_script.specs.Lines.{moment_of, new_phase, phase_fault, phase_line};
+ghost use Rattle.worker_script.specs.Reader.{draft_of, IsReader, Finds, Reads};
+
+use crate::fault::Fault;
+use crate::number::number;
+use crate::reader::Reader;
+use crate::script::Phase;
+use crate::text::{count_tokens, token_at};
+use sid_core::{Items, Moment, OutOfMemory};
+use std::alloc::Global;
+use std::mem;
+
+// The moment of a phase, and 0 before the first one.
+fn moment_of(phase: &Option<Phase>) -> u64
+    ensures { result ≡ moment_of phase.now }
+{
+    match phase {
+        None => 0,
+        Some(phase) => phase.moment.0,
+    }
+}
+
+fn new_phase(alloc: Global, moment: u64) -> Phase
+    ensures { result ≡ new_phase moment }
+{
+    Phase {
+        moment: Moment(moment),
+        calls: Items::new(alloc),
+    }
+}
+
+/// Adds a phase, if there is one.
+pub(crate) fn push_phase(phases: &mut Items<Phase>, phase: Option<Phase>) -> Result<(), OutOfMemory>
+    ensures { OnOk result (phases.new ≡ phases.old ++ option_to_list phase) }
+{
+    match phase {
+        None => Ok(()),
+        Some(phase) => phases.push(phase),
+    }
+}
+
+impl Reader {
+    // What makes a phase line bad, or its moment.
+    #[tactic(auto, unfolding(crate::specs::Lines::phase_fault))]
+    fn phase_fault(&self, line: &[u8]) -> Result<u64, u32>
+        requires { IsReader self.now }
+        ensures fault { Finds (phase_fault (draft_of self.now) (tokens line.now)) (value (token 1 (tokens line.now))) result }
+        ensures room { IfOk result (λ _. length self.now.phases < 10000) }
+    {
+        if count_tokens(line) != 2 {
+            return Err(3);
+        }
+        let Some(moment) = number(0, 9_999_999_999, token_at(1, line)) else {
+            return Err(4);
+        };
+        if 10_000 <= self.phases.len() + usize::from(self.current.is_some()) {
+            return Err(9);
+        }
+        if moment < moment_of(&self.current) {
+            return Err(15);
+        }
+        Ok(moment)
+    }
+
+    #[tactic(auto, unfolding(crate::specs::Lines::phase_line))]
+    pub fn phase_line(&mut self, line: &[u8]) -> Result<(), Fault>
+        requires { IsReader self.old }
+        ensures { Reads (phase_line (draft_of self.old) (tokens line.now)) self.new result }
+    {
+        let moment = self.phase_fault(line)?;
+        let next = new_phase(self.alloc, moment);
+        let before = mem::replace(&mut self.current, Some(next));
+        push_phase(&mut self.phases, before)?;
+        Ok(())
+    }
+}

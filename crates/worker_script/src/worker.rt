@@ -1,0 +1,90 @@
+ghost use Rattle.std.specs.Prelude.{◌≡◌, ◌<◌, ◌==◌, cond, Some, None, IfOk, length};
+ghost use Rattle.std.specs.List.{list_any};
+ghost use Rattle.worker_script.specs.Text.{tokens};
+ghost use Rattle.worker_script.specs.Values.{is_short};
+ghost use Rattle.worker_script.specs.Lines.{are_worker_numbers, worker_fault, worker_line};
+ghost use Rattle.worker_script.specs.Reader.{draft_of, IsReader, Finds, Reads};
+ghost use Rattle.worker_script.specs.Numbers.{worker_numbers};
+
+use crate::fault::Fault;
+use crate::number::{number_u32, number_u64, positive_u32};
+use crate::reader::Reader;
+use crate::text::{count_tokens, is_short, text, token_at};
+use sid_core::WorkerInfo;
+
+/// The numbers of a line `worker W PID UID GUID MACHINE SHARE`.
+#[derive(Clone, Copy)]
+pub(crate) struct WorkerNumbers {
+    pub worker: u32,
+    pub pid: u32,
+    pub uid: u32,
+    pub guid: u64,
+}
+
+fn worker_numbers(line: &[u8]) -> Option<WorkerNumbers>
+    ensures { result ≡ cond (are_worker_numbers (tokens line.now)) (Some (worker_numbers (tokens line.now))) None }
+{
+    Some(WorkerNumbers {
+        worker: number_u32(token_at(1, line))?,
+        pid: positive_u32(token_at(2, line))?,
+        uid: number_u32(token_at(3, line))?,
+        guid: number_u64(token_at(4, line))?,
+    })
+}
+
+fn has_pid(workers: &[WorkerInfo], pid: u32) -> bool
+    ensures { result ≡ list_any (λ worker. worker.pid == pid) workers.now }
+{
+    workers.iter().any(|worker| worker.pid == pid)
+}
+
+impl Reader {
+    // What makes a worker line bad, or its numbers.
+    #[tactic(auto, unfolding(crate::specs::Lines::worker_fault))]
+    fn worker_fault(&self, line: &[u8]) -> Result<WorkerNumbers, u32>
+        requires { IsReader self.now }
+        ensures fault { Finds (worker_fault (draft_of self.now) (tokens line.now)) (worker_numbers (tokens line.now)) result }
+        ensures room { IfOk result (λ _. length self.now.workers < 64) }
+    {
+        if count_tokens(line) != 7 {
+            return Err(3);
+        }
+        let Some(numbers) = worker_numbers(line) else {
+            return Err(4);
+        };
+        if self.current.is_some() {
+            return Err(5);
+        }
+        if numbers.worker as usize != self.workers.len() + 1 {
+            return Err(6);
+        }
+        if 64 <= self.workers.len() {
+            return Err(7);
+        }
+        if has_pid(self.workers.as_slice(), numbers.pid) {
+            return Err(12);
+        }
+        if !(is_short(token_at(5, line)) && is_short(token_at(6, line))) {
+            return Err(14);
+        }
+        Ok(numbers)
+    }
+
+    #[tactic(auto, unfolding(crate::specs::Lines::worker_line))]
+    pub fn worker_line(&mut self, line: &[u8]) -> Result<(), Fault>
+        requires { IsReader self.old }
+        ensures { Reads (worker_line (draft_of self.old) (tokens line.now)) self.new result }
+    {
+        let numbers = self.worker_fault(line)?;
+        let machine = text(self.alloc, token_at(5, line))?;
+        let share = text(self.alloc, token_at(6, line))?;
+        self.workers.push(WorkerInfo {
+            pid: numbers.pid,
+            uid: numbers.uid,
+            guid: numbers.guid,
+            machine,
+            share,
+        })?;
+        Ok(())
+    }
+}
