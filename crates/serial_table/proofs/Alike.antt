@@ -1,6 +1,8 @@
 -- The laws of the table's rules.
-use Rattle.std.proofs.Common.{◌≡◌, ℕ, Bool, true, false, ◌&&◌, ◌||◌, refl, sym, ap, ◌∙◌}
+use Rattle.std.proofs.Common.{◌≡◌, ℕ, Bool, true, false, ◌&&◌, ◌||◌, List, [], ◌∷◌, ◌++◌, refl, sym, ap, ◌∙◌}
 use Rattle.sid_core.specs.declared.call.Call.{Call}
+use Rattle.sid_core.specs.declared.entry.Entry.{Entry}
+use Rattle.sid_core.specs.declared.setup.Setup.{Setup}
 use Rattle.serial_table.specs.declared.table.Table.{Table}
 use Rattle.serial_table.specs.declared.decision.Caller.{Caller}
 use Rattle.serial_table.specs.Share.{takes_part, is_hindered, share_conflict}
@@ -8,6 +10,7 @@ use Rattle.serial_table.specs.View.{View, view}
 use Rattle.serial_table.specs.Change.{change_all}
 use Rattle.serial_table.specs.Decide.{outcome}
 use Rattle.serial_table.specs.Step.{step}
+use Rattle.serial_table.specs.History.{after_entry, after_all, IsLegalEntry, AreLegal}
 use Rattle.serial_table.proofs.Views.{view-apply_all}
 
 either_way : (p q a b : Bool) → (p && q && (a || b)) ≡ (q && p && (b || a))
@@ -33,3 +36,11 @@ same_view t u caller call e =
     view-apply_all (outcome (view t) caller call).changes t
     ∙ ap (λ v. change_all (outcome v caller call).changes v) e
     ∙ sym (view-apply_all (outcome (view u) caller call).changes u)
+
+pub after_all-append : (setup : Setup) (t : Table) (history : List Entry) (entry : Entry) → after_all setup t (history ++ entry ∷ []) ≡ after_entry setup (after_all setup t history) entry
+after_all-append setup t [] entry = refl
+after_all-append setup t (first ∷ history) entry = after_all-append setup (after_entry setup t first) history entry
+
+pub legal_goes_on : (setup : Setup) (t : Table) (history : List Entry) (entry : Entry) → AreLegal setup t history → IsLegalEntry setup (after_all setup t history) entry → AreLegal setup t (history ++ entry ∷ [])
+legal_goes_on setup t [] entry legal h = (h, tt)
+legal_goes_on setup t (first ∷ history) entry legal h = (legal.0, legal_goes_on setup (after_entry setup t first) history entry legal.1 h)

@@ -28,6 +28,11 @@ module _ {X : Type 0} where
   distinct_cond same true x xs all d = (all, d)
   distinct_cond same false x xs all d = d
 
+  pub distinct_none : (same : X → X → Bool) (xs : List X) → xs ≡ [] → IsDistinct same xs
+  unfolding IsDistinct
+  distinct_none same [] e = tt
+  distinct_none same (x ∷ xs) e = absurd cc
+
   pub distinct_filtered : (same : X → X → Bool) (p : X → Bool) (xs : List X) → IsDistinct same xs → IsDistinct same (filter p xs)
   unfolding IsDistinct
   distinct_filtered same p [] d = tt

@@ -1,18 +1,29 @@
 -- The workers at the start, and who calls while they are as they were.
-use Rattle.std.proofs.Common.{◌≡◌, ◌==◌, ℕ, zero, suc, Bool, true, false, cond, ◌&&◌, List, [], ◌∷◌, find, map, Option, Some, None, IsTrue, refl, sym, ap, ◌∙◌, eq-eqb}
+use Rattle.std.proofs.Common.{◌≡◌, ◌==◌, ◌<◌, ◌≤◌, ℕ, zero, suc, length, arith, Bool, true, false, cond, ◌&&◌, List, [], ◌∷◌, find, map, Option, Some, None, IsTrue, refl, sym, ap, ◌∙◌, eq-eqb}
 use Rattle.std.specs.Prelude.{option_and_then, slice_get, nat_eq}
 use Rattle.std.specs.List.{AllByRecursion, IsDistinct}
-use Rattle.std.specs.Option.{option_map_or}
+use Rattle.std.specs.Option.{option_map, option_map_or}
 use Rattle.std.proofs.lemmas.Bool.{eqb-true}
 use Rattle.sid_core.specs.declared.ids.Moment.{Moment}
 use Rattle.sid_core.specs.declared.setup.Setup.{Setup}
 use Rattle.sid_core.specs.declared.setup.WorkerInfo.{WorkerInfo}
 use Rattle.serial_table.specs.declared.rows.WorkerRow.{WorkerRow}
 use Rattle.serial_table.specs.declared.table.Table.{Table}
+use Rattle.sid_core.specs.Setup.{IsDeclared}
+use Rattle.serial_table.specs.declared.change.Change.{Change}
+use Rattle.serial_table.specs.declared.change.Change.TheVariants.{AddOpen, DropOpen, AddWaiter, DropWaiter, DropWaiters, Send, Settle}
+use Rattle.serial_table.specs.Settle.{settle}
+use Rattle.serial_table.specs.Change.{apply, apply_all}
 use Rattle.serial_table.specs.declared.decision.Caller.{Caller}
 use Rattle.serial_table.specs.View.{View, view}
-use Rattle.serial_table.specs.Step.{caller_of, caller_if_alive, declared_at}
-use Rattle.serial_table.specs.History.{start_worker, start_workers}
+use Rattle.serial_table.specs.Step.{caller_of, caller_if_alive, declared_at, step}
+use Rattle.serial_table.specs.Decide.{outcome}
+use Rattle.serial_table.specs.declared.decision.Stepped.{Stepped}
+use Rattle.sid_core.specs.declared.entry.Entry.{Entry}
+use Rattle.sid_core.specs.declared.entry.Event.{Event}
+use Rattle.sid_core.specs.declared.entry.Event.TheVariants.{Called, Died, Tidied}
+use Rattle.sid_core.specs.declared.call.Call.{Call}
+use Rattle.serial_table.specs.History.{start_worker, start_workers, after_event, after_entry}
 
 -- ---- what is found at the start
 
@@ -52,9 +63,14 @@ pub declared_lives : (infos : List WorkerInfo) (n place : ℕ) (info : WorkerInf
 declared_lives [] n place info e = absurd cc
 declared_lives (first ∷ infos) n zero info e =
     lives_first (first.pid == info.pid) n first (find (λ r. r.pid == info.pid) (start_workers (suc n) infos))
-        (eq-eqb first.pid info.pid (ap (λ (i : WorkerInfo). i.pid) (some_is first info e)))
+    (eq-eqb first.pid info.pid (ap (λ (i : WorkerInfo). i.pid) (some_is first info e)))
 declared_lives (first ∷ infos) n (suc place) info e =
     lives_here (first.pid == info.pid) n first (find (λ r. r.pid == info.pid) (start_workers (suc n) infos)) (declared_lives infos (suc n) place info e)
+
+pub worker_lives : (infos : List WorkerInfo) (worker : ℕ) (info : WorkerInfo) → declared_at infos worker ≡ Some info
+    → option_map_or (λ r. r.alive && (r.session == 1)) (find (λ r. r.pid == info.pid) (start_workers 1 infos)) false ≡ true
+worker_lives infos zero info e = absurd cc
+worker_lives infos (suc place) info e = declared_lives infos 1 place info e
 
 -- ---- one pid, one worker
 
@@ -103,7 +119,8 @@ by_row setup worker number moment caller info None d h e = absurd cc
 by_row setup worker number moment caller info (Some row) d h e =
     let same = alive_caller info number moment row row.alive caller e in
     record {
-      info = info; declared = d;
+      info = info;
+      declared = d;
       pid = ap (λ (c : Caller). c.sid.pid) (sym same) ∙ (h row refl).pid_is;
       session = ap (λ (c : Caller). c.sid.session) (sym same) ∙ (h row refl).session;
       number_is = ap (λ (c : Caller). c.number) (sym same);
@@ -114,9 +131,70 @@ by_info : (setup : Setup) (t : Table) (worker number : ℕ) (moment : Moment) (c
 by_info setup t worker number moment caller None w d e = absurd cc
 by_info setup t worker number moment caller (Some info) w d e =
     by_row setup worker number moment caller info ((view t).worker_of info.pid) d
-        (λ row f. found_started setup.workers 1 info.pid row (ap (find (λ r. r.pid == info.pid)) (sym w) ∙ f)) e
+    (λ row f. found_started setup.workers 1 info.pid row (ap (find (λ r. r.pid == info.pid)) (sym w) ∙ f)) e
 
 pub first_caller : (setup : Setup) (t : Table) (worker number : ℕ) (moment : Moment) (caller : Caller) → t.workers ≡ start_workers 1 setup.workers
     → caller_of setup (view t) worker number moment ≡ Some caller → IsFirstCaller setup worker number moment caller
 unfolding caller_of
 first_caller setup t worker number moment caller w e = by_info setup t worker number moment caller (declared_at setup.workers worker) w refl e
+
+-- ---- a declared worker calls
+
+declared_there : (infos : List WorkerInfo) (place : ℕ) → place < length infos → (info : WorkerInfo) × (slice_get infos place ≡ Some info)
+declared_there [] place h = absurd (omega arith)
+declared_there (info ∷ infos) zero h = (info, refl)
+declared_there (info ∷ infos) (suc place) h = declared_there infos place (omega arith)
+
+pub declared_is : (infos : List WorkerInfo) (worker : ℕ) → IsDeclared infos worker → (info : WorkerInfo) × (declared_at infos worker ≡ Some info)
+declared_is infos zero h = absurd (let low : 1 ≤ 0 = h.0 in omega arith)
+declared_is infos (suc place) h = declared_there infos place (let high : suc place ≤ length infos = h.1 in omega arith)
+
+alive_part : (b c : Bool) → (b && c) ≡ true → b ≡ true
+alive_part true c e = refl
+alive_part false c e = e
+
+row_there : (o : Option WorkerRow) → option_map_or (λ (r : WorkerRow). r.alive && (r.session == 1)) o false ≡ true → (row : WorkerRow) × (o ≡ Some row) × (row.alive ≡ true)
+row_there None e = absurd cc
+row_there (Some row) e = (row, refl, alive_part row.alive (row.session == 1) e)
+
+pub caller_there : (setup : Setup) (t : Table) (worker number : ℕ) (moment : Moment) → t.workers ≡ start_workers 1 setup.workers → IsDeclared setup.workers worker
+    → (caller : Caller) × (caller_of setup (view t) worker number moment ≡ Some caller)
+unfolding caller_of
+caller_there setup t worker number moment w h =
+    let info = declared_is setup.workers worker h in
+    let found = row_there (find (λ r. r.pid == info.0.pid) (start_workers 1 setup.workers)) (worker_lives setup.workers worker info.0 info.1) in
+    let row = found.0 in
+    let is_row : (view t).worker_of info.0.pid ≡ Some found.0 = ap (find (λ r. r.pid == info.0.pid)) w ∙ found.1 in (
+      record { sid = record { pid = found.0.pid; session = found.0.session }; guid = info.0.guid; number = number; moment = moment },
+      ap (option_and_then (λ i. option_and_then (caller_if_alive i number moment) ((view t).worker_of i.pid))) info.1
+          ∙ ap (option_and_then (caller_if_alive info.0 number moment)) is_row
+          ∙ ap (λ b. cond b (Some (record { sid = record { pid = found.0.pid; session = found.0.session }; guid = info.0.guid; number = number; moment = moment })) None) found.2,
+    )
+
+-- ---- the workers stay as they are
+
+workers-apply : (c : Change) (t : Table) → (apply c t).workers ≡ t.workers
+unfolding settle
+workers-apply (AddOpen row) t = refl
+workers-apply (DropOpen file id) t = refl
+workers-apply (AddWaiter waiter) t = refl
+workers-apply (DropWaiter sid spot) t = refl
+workers-apply (DropWaiters spot) t = refl
+workers-apply (Send post) t = refl
+workers-apply Settle t = refl
+
+pub workers-apply_all : (cs : List Change) (t : Table) → (apply_all cs t).workers ≡ t.workers
+workers-apply_all [] t = refl
+workers-apply_all (c ∷ cs) t = workers-apply_all cs (apply c t) ∙ workers-apply c t
+
+after_called : (t : Table) (o : Option Caller) (call : Call) → (option_map_or (λ (s : Stepped). s.table) (option_map (λ caller. step t caller call) o) t).workers ≡ t.workers
+after_called t None call = refl
+after_called t (Some caller) call = workers-apply_all (outcome (view t) caller call).changes t
+
+after_by : (setup : Setup) (t : Table) (by : ℕ) (event : Event) → (after_event setup t by event).workers ≡ t.workers
+after_by setup t by (Called number moment call reply) = after_called t (caller_of setup (view t) by number moment) call
+after_by setup t by (Died worker moment) = refl
+after_by setup t by (Tidied chain) = refl
+
+pub workers-after_entry : (setup : Setup) (t : Table) (entry : Entry) → (after_entry setup t entry).workers ≡ t.workers
+workers-after_entry setup t entry = after_by setup t entry.by entry.what

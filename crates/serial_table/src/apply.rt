@@ -1,8 +1,10 @@
-ghost use Rattle.std.specs.Prelude.{◌≡◌, ◌↔◌, IsTrue, IfOk, IfErr, OnOk, OnErr, Some};
+ghost use Rattle.std.specs.Prelude.{◌≡◌, ◌↔◌, IsTrue, IsSome, IfOk, IfErr, OnOk, OnErr, Some};
 ghost use Rattle.std.specs.Option.{option_copied};
 ghost use Rattle.serial_table.specs.View.{view};
 ghost use Rattle.serial_table.specs.Decide.{is_served};
 ghost use Rattle.serial_table.specs.Step.{caller_of, caller_if_alive, declared_at, step};
+ghost use Rattle.sid_core.specs.Setup.{IsDeclared};
+ghost use Rattle.serial_table.specs.History.{start_workers};
 ghost use Rattle.serial_table.specs.Apply.{IsServedEvent, Accepts, Refuses};
 ghost use Rattle.serial_table.specs.declared.apply.Apply.TheVariants as refusals;
 
@@ -74,14 +76,22 @@ fn caller_if_alive(info: &WorkerInfo, number: u32, moment: Moment, row: WorkerRo
 }
 
 impl Table {
-    /// The caller that a worker's call with this number at this moment has: none where the worker isn't declared or is dead.
     #[tactic(auto, unfolding(crate::specs::Step::caller_of))]
-    pub fn caller(&self, setup: &Setup, worker: u32, number: u32, moment: Moment) -> Option<Caller>
+    fn find_caller(&self, setup: &Setup, worker: u32, number: u32, moment: Moment) -> Option<Caller>
         ensures { result ≡ caller_of setup.now (view self.now) worker number moment }
     {
         let info = declared_at(setup.workers.as_slice(), worker)?;
         let row = worker_of(self.workers.as_slice(), info.pid)?;
         caller_if_alive(info, number, moment, row)
+    }
+
+    /// The caller that a worker's call with this number at this moment has: none where the worker isn't declared or is dead.
+    pub fn caller(&self, setup: &Setup, worker: u32, number: u32, moment: Moment) -> Option<Caller>
+        ensures caller { result ≡ caller_of setup.now (view self.now) worker number moment }
+        // Each declared worker lives while the workers are as they were at the start.
+        ensures lives { self.now.workers ≡ start_workers 1 setup.now.workers → IsDeclared setup.now.workers worker → IsSome result }
+    {
+        self.find_caller(setup, worker, number, moment)
     }
 
     /// Carries out a call, and gives the reply and the letters that it posts. It costs as much as a copy of the table.
@@ -90,6 +100,7 @@ impl Table {
         ensures changed { OnOk result (self.new ≡ (step self.old caller.now call).table) }
         ensures reply { IfOk result (λ answer. answer.0 ≡ (step self.old caller.now call).reply) }
         ensures posts { IfOk result (λ answer. answer.1 ≡ (step self.old caller.now call).posts) }
+        ensures workers { self.new.workers ≡ self.old.workers }
         ensures err { OnErr result (self.new ≡ self.old) }
     {
         let Stepped {
