@@ -1,2 +1,4 @@
 pub mod Appending
 pub mod Taking
+pub mod Playing
+pub mod Pieces

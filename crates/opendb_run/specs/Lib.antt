@@ -3,3 +3,5 @@ pub mod Memory
 pub mod Output
 pub mod Status
 pub mod Words
+pub mod Play
+pub mod Run

@@ -4,8 +4,11 @@
 mod adapters;
 mod gate;
 mod input;
+mod lines;
 mod memory;
 mod output;
+mod play;
+mod run;
 mod schedule;
 mod status;
 mod words;

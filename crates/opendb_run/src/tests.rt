@@ -1,5 +1,9 @@
 use super::*;
-use sid_core::Sink;
+use crate::lines::{push_call_line, push_post_lines};
+use sid_core::{
+    Access, Call, Items, LeaseState, Letter, Post, Reply, Setup, Share, Sid, Sink, Span, Text,
+    WorkerInfo,
+};
 use std::test::Fail;
 
 #[test]
@@ -123,5 +127,99 @@ fn the_system_is_read_and_written(rt: HostRuntime) -> Result<(), Fail> {
     assert!(rt; sink.write(b"worker")? == 4);
     // Nothing is taken where no room is left, and that is a fault.
     assert!(rt; sink.write(b"er").is_err());
+    Ok(())
+}
+
+#[test]
+fn a_history_prints_its_lines(rt: HostRuntime) -> Result<(), Fail> {
+    for (call, reply, wanted) in [
+        (
+            Call::OpenFile {
+                file: 1,
+                access: Access(1),
+                share: Share(7),
+                lease: None,
+                durable: 60,
+                overwrite: false,
+            },
+            Reply::Granted {
+                lease: Some(LeaseState(7)),
+                durable: true,
+            },
+            "2.10 open GRANTED lease=RWH durable\n",
+        ),
+        (
+            Call::Recv,
+            Reply::Message(Letter::Break {
+                file: 1,
+                key: 18_446_744_073_709_551_615,
+                from: LeaseState(7),
+                to: LeaseState(1),
+                ack: true,
+            }),
+            "2.10 recv BREAK file=1 key=18446744073709551615 RWH->R ack\n",
+        ),
+        (
+            Call::Scavenge,
+            Reply::Scavenged { count: 12 },
+            "2.10 scavenge SCAVENGED 12\n",
+        ),
+        (
+            Call::Write {
+                handle: 3,
+                span: Span {
+                    start: 0,
+                    length: 1,
+                },
+            },
+            Reply::SharingViolation,
+            "2.10 write SHARING_VIOLATION\n",
+        ),
+    ] {
+        let mut text = Text::new(rt.alloc());
+        push_call_line(&mut text, 2, 10, &call, reply)?;
+        assert_eq!(rt; text.bytes(), wanted.as_bytes(), "of {wanted}");
+    }
+    let mut workers = Items::new(rt.alloc());
+    for pid in [101, 205] {
+        workers.push(WorkerInfo {
+            pid,
+            uid: 0,
+            guid: 0,
+            machine: Text::new(rt.alloc()),
+            share: Text::new(rt.alloc()),
+        })?;
+    }
+    let setup = Setup {
+        workers,
+        files: Items::new(rt.alloc()),
+    };
+    let posts = [
+        Post {
+            to: Sid {
+                pid: 205,
+                session: 1,
+            },
+            letter: Letter::Wake { call: 3 },
+        },
+        Post {
+            to: Sid {
+                pid: 101,
+                session: 2,
+            },
+            letter: Letter::Break {
+                file: 4,
+                key: 0,
+                from: LeaseState(3),
+                to: LeaseState(0),
+                ack: false,
+            },
+        },
+    ];
+    assert!(rt; setup.workers.len() <= 64);
+    let mut text = Text::new(rt.alloc());
+    push_post_lines(&mut text, &setup, &posts)?;
+    let wanted = "  -> 2 WAKE 3\n  -> 1 BREAK file=4 key=0 RH->-\n";
+    assert_eq!(rt; text.bytes(), wanted.as_bytes());
     Ok(())
 }

@@ -1,0 +1,72 @@
+#!/usr/bin/env bash
+# How many instructions the program takes: for each byte of comment lines, and for each call of one worker.
+# They are counted by valgrind's callgrind on the program that the gate built (.ci/run), so that the figures don't depend
+# on what else the machine does. Run by hand; the gate doesn't. Prints the rows of bench/RESULTS.md.
+set -eu
+cd "$(dirname "$0")/.."
+program=crates/opendb/out/opendb
+[ -x "$program" ] || { echo "bench: no program is built: run .ci/run first" >&2; exit 1; }
+room=$(mktemp -d)
+trap 'rm -rf "$room"' EXIT
+
+# instructions SCRIPT: those of one run of it, which has to end with status 0
+instructions() {
+  valgrind --tool=callgrind --callgrind-out-file=/dev/null --log-file="$room/log" "$program" run <"$1" >/dev/null || {
+    echo "bench: a run ended with status $?" >&2
+    return 1
+  }
+  sed -n 's/^.*Collected : \([0-9]*\).*$/\1/p' "$room/log"
+}
+
+# row WHAT COUNT WITHOUT: what the script in $room takes, of so many bytes or calls, less what one with none takes
+row() {
+  local used
+  used=$(instructions "$room/script")
+  used=$((used - $3))
+  echo "| $1 | $2 | $used | $(awk -v all="$used" -v count="$2" 'BEGIN { printf "%.1f", all / count }') |"
+}
+
+declare_one() {
+  printf '%s\n' 'worker 1 101 1000 1 hostA data' 'file 1 1 11 /srv/data a.txt' 'phase 0'
+}
+
+# closed_at_once CALLS: half of them opens, each closed by the next call
+closed_at_once() {
+  declare_one
+  awk -v calls="$1" 'BEGIN { for (k = 1; k < calls; k += 2) printf "1 open 1 0x3 rwd\n1 close %d\n", k }'
+}
+
+# closed_at_the_end CALLS: half of them opens, and then each is closed
+closed_at_the_end() {
+  declare_one
+  awk -v calls="$1" 'BEGIN {
+    for (k = 1; k <= calls / 2; k++) print "1 open 1 0x3 rwd"
+    for (k = 1; k <= calls / 2; k++) print "1 close " k
+  }'
+}
+
+# comments BYTES: comment lines of 64 bytes, the last one cut
+comments() {
+  awk 'BEGIN { line = "#"; while (length(line) < 63) line = line "."; while (1) print line }' 2>/dev/null | head -c "$1" || true
+}
+
+echo '| input | bytes or calls | instructions | for each |'
+echo '|---|---|---|---|'
+script=examples/open_and_close.txt
+alone=$(instructions "$script")
+size=$(wc -c <"$script")
+for total in 1048576 4194304; do
+  { cat "$script"; comments $((total - size)); } >"$room/script"
+  [ "$(wc -c <"$room/script")" -eq "$total" ]
+  row "comment lines, $((total / 1048576)) MiB with the first example" $((total - size)) "$alone"
+done
+closed_at_once 0 >"$room/script"
+none=$(instructions "$room/script")
+for calls in 2000 20000; do
+  closed_at_once "$calls" >"$room/script"
+  row "$calls calls, each open closed at once" "$calls" "$none"
+done
+for calls in 500 1000 2000; do
+  closed_at_the_end "$calls" >"$room/script"
+  row "$calls calls, half of them opens that stay until the end" "$calls" "$none"
+done

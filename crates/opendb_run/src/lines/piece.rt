@@ -1,0 +1,57 @@
+ghost use Rattle.std.specs.Prelude.{◌≡◌, ◌+◌, ◌<◌, [], ◌∷◌, ◌++◌, OnOk};
+ghost use Rattle.std.specs.Fmt.{decimal};
+ghost use Rattle.serial_table.specs.Text.{state_text, text_if};
+
+use sid_core::{LeaseState, OutOfMemory, Text};
+
+/// Adds a number in decimal. It takes no memory but the text's own.
+pub(crate) fn push_decimal(text: &mut Text, number: u64) -> Result<(), OutOfMemory>
+    ensures { OnOk result (text.new ≡ text.old ++ decimal number) }
+{
+    if number < 10 {
+        return push_digit(text, number as u8);
+    }
+    push_decimal(text, number / 10)?;
+    push_digit(text, (number % 10) as u8)
+}
+
+fn push_digit(text: &mut Text, digit: u8) -> Result<(), OutOfMemory>
+    requires { digit < 10 }
+    ensures { OnOk result (text.new ≡ text.old ++ (48 + digit) ∷ []) }
+{
+    text.push(&[b'0' + digit])
+}
+
+/// Adds a number after what tells its meaning.
+pub(crate) fn push_numbered(text: &mut Text, before: &[u8], number: u64) -> Result<(), OutOfMemory>
+    ensures { OnOk result (text.new ≡ text.old ++ (before.now ++ decimal number)) }
+{
+    text.push(before)?;
+    push_decimal(text, number)
+}
+
+/// Adds what is said only where something holds.
+pub(crate) fn push_if(text: &mut Text, holds: bool, said: &[u8]) -> Result<(), OutOfMemory>
+    ensures { OnOk result (text.new ≡ text.old ++ text_if holds said.now) }
+{
+    if holds { text.push(said) } else { Ok(()) }
+}
+
+/// Adds the letters of what a lease holds, or a dash where it holds nothing.
+pub(crate) fn push_state(text: &mut Text, state: LeaseState) -> Result<(), OutOfMemory>
+    ensures { OnOk result (text.new ≡ text.old ++ state_text state.0) }
+{
+    text.push(state_word(state).as_bytes())
+}
+
+fn state_word(state: LeaseState) -> &'static str
+    ensures { result.now ≡ state_text state.0 }
+{
+    match state.0 {
+        0 => "-",
+        1 => "R",
+        3 => "RH",
+        5 => "RW",
+        _ => "RWH",
+    }
+}

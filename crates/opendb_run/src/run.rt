@@ -1,0 +1,83 @@
+ghost use Rattle.std.specs.Prelude.{◌≡◌, ◌↔◌, ◌≤◌, ℕ, IsTrue, IfSome, length, map, string_bytes, Some, None};
+ghost use Rattle.std.specs.Io.KnownBytes.{Appends};
+ghost use Rattle.sid_core.specs.Faults.{Rose};
+ghost use Rattle.worker_script.specs.Script.{IsScript};
+ghost use Rattle.opendb_run.specs.Words.{command};
+ghost use Rattle.opendb_run.specs.Status.{complaint};
+ghost use Rattle.opendb_run.specs.Input.{TakesBefore};
+ghost use Rattle.opendb_run.specs.declared.input.TheConstants.{LIMIT};
+ghost use Rattle.opendb_run.specs.Run.{HasRun, ReadsScript, StopsAt, IsExpected, is_silent, ScriptEnded, BytesEnded, InputEnded};
+
+use crate::input::{InputError, read_all};
+use crate::output::write_all;
+use crate::play::play;
+use crate::status::{Status, complain};
+use crate::words::Command;
+use sid_core::{Gate, Sink, Source};
+use std::alloc::Global;
+use worker_script::{Parse, Script, parse};
+
+/// How a call ended, and the line that it names.
+#[derive(Clone, Copy)]
+struct Ending {
+    status: Status,
+    line: u32,
+}
+
+/// Runs a script, and prints its history at its end.
+fn run_script<O: Sink, G: Gate>(alloc: Global, script: &Script, out: &mut O, gate: &G) -> Status
+    requires { IsScript script.now }
+    ensures ended { ScriptEnded script.now (O.written out.old) (O.written out.new) (Rose (O.faults out.old) (O.faults out.new)) result }
+    ensures faults { O.faults out.old ≤ O.faults out.new }
+{
+    let Ok(text) = play(alloc, script, gate) else {
+        return Status::OutOfMemory;
+    };
+    match write_all(out, text.bytes()) {
+        Ok(()) => Status::Done,
+        Err(_) => Status::WriteFault,
+    }
+}
+
+/// Runs the script that the bytes spell.
+fn run_bytes<O: Sink, G: Gate>(alloc: Global, bytes: &[u8], out: &mut O, gate: &G) -> Ending
+    requires { length bytes.now ≤ LIMIT }
+    ensures ended { BytesEnded bytes.now (O.written out.old) (O.written out.new) (Rose (O.faults out.old) (O.faults out.new)) result.status result.line }
+    ensures faults { O.faults out.old ≤ O.faults out.new }
+{
+    match parse(alloc, bytes) {
+        Ok(script) => Ending {
+            status: run_script(alloc, &script, out, gate),
+            line: 0,
+        },
+        Err(Parse::NotBuilt { line }) => Ending {
+            status: Status::NotBuilt,
+            line,
+        },
+        Err(Parse::OutOfMemory) => Ending {
+            status: Status::OutOfMemory,
+            line: 0,
+        },
+    }
+}
+
+/// Reads the input to its end, and runs what it spells.
+fn run_input<S: Source, O: Sink, G: Gate>(
+    alloc: Global,
+    source: &mut S,
+    out: &mut O,
+    gate: &G,
+) -> Ending
+    ensures ended { InputEnded (S.left source.old) (S.left source.new) (O.written out.old) (O.written out.new)
+        (Rose (S.faults source.old) (S.faults source.new)) (Rose (O.faults out.old) (O.faults out.new)) result.status result.line }
+    ensures source_faults { S.faults source.old ≤ S.faults source.new }
+    ensures out_faults { O.faults out.old ≤ O.faults out.new }
+{
+    match read_all(alloc, source) {
+        Ok(bytes) => run_bytes(alloc, bytes.as_slice(), out, gate),
+        Err(error) => Ending {
+            status: Status::from(error),
+            line: 0,
+        },
+    }
+}
