@@ -1,12 +1,11 @@
 -- The history that one thread makes is legal and fits the script.
-use Rattle.std.proofs.Common.{◌≡◌, ◌==◌, ℕ, zero, suc, ◌+◌, ◌<◌, ◌≤◌, Bool, true, false, cond, ◌&&◌, List, [], ◌∷◌, ◌++◌, length, take, drop, get_or, Option, Some, None, refl, sym, ap, ◌∙◌, subst, append_assoc, append-nil, arith}
-use Rattle.std.specs.List.{AllByRecursion, flat_map}
+use Rattle.std.proofs.Common.{◌≡◌, ◌==◌, ℕ, zero, suc, ◌+◌, ◌<◌, Bool, true, false, cond, ◌&&◌, List, [], ◌∷◌, ◌++◌, length, drop, get_or, Some, None, refl, sym, ap, ◌∙◌, subst, append_assoc, arith}
+use Rattle.std.specs.List.{AllByRecursion}
 use Rattle.std.specs.Option.{option_map, option_map_or}
 use Rattle.std.proofs.lemmas.Grind.{flat_map-append}
 use Rattle.std.proofs.lemmas.List.{at_drop_more}
 use Rattle.sid_core.specs.declared.ids.Moment.{Moment}
 use Rattle.sid_core.specs.declared.entry.Entry.{Entry}
-use Rattle.sid_core.specs.declared.entry.Event.TheVariants.{Called}
 use Rattle.sid_core.specs.declared.call.Call.{Call}
 use Rattle.sid_core.specs.declared.call.Call.TheVariants.{OpenFile, Close, Ack, Lock, Unlock, Read, Write, GLock, GUnlock, Recv, Disconnect, Reconnect, Scavenge, Tidy, Status}
 use Rattle.sid_core.specs.declared.reply.Reply.TheVariants.{Unsuccessful}

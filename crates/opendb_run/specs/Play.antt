@@ -7,7 +7,7 @@ use Rattle.sid_core.specs.declared.entry.Event.TheVariants.{Called}
 use Rattle.sid_core.specs.declared.reply.Reply.TheVariants.{Unsuccessful}
 use Rattle.sid_core.specs.declared.setup.Setup.{Setup}
 use Rattle.serial_table.specs.declared.table.Table.{Table}
-use Rattle.serial_table.specs.History.{start, called, after_entry, after_all, IsLegal}
+use Rattle.serial_table.specs.History.{called, after_entry, after_all, IsLegal}
 use Rattle.serial_table.specs.Text.{text}
 use Rattle.worker_script.specs.declared.script.Planned.{Planned}
 use Rattle.worker_script.specs.declared.script.Phase.{Phase}

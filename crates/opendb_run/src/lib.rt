@@ -8,9 +8,9 @@ mod lines;
 mod memory;
 mod output;
 mod play;
-mod run;
 mod schedule;
 mod status;
+mod top;
 mod words;
 
 pub use adapters::{RealSink, RealSource};
@@ -19,6 +19,7 @@ pub use input::{InputError, LIMIT, read_all};
 pub use memory::{Bytes, Page};
 pub use output::write_all;
 pub use status::{Status, complain};
+pub use top::run;
 pub use words::Command;
 
 #[cfg(test)]

@@ -4,6 +4,7 @@ use sid_core::{
     Access, Call, Items, LeaseState, Letter, Post, Reply, Setup, Share, Sid, Sink, Span, Text,
     WorkerInfo,
 };
+use std::alloc::Global;
 use std::test::Fail;
 
 #[test]
@@ -221,5 +222,120 @@ fn a_history_prints_its_lines(rt: HostRuntime) -> Result<(), Fail> {
     push_post_lines(&mut text, &setup, &posts)?;
     let wanted = "  -> 2 WAKE 3\n  -> 1 BREAK file=4 key=0 RH->-\n";
     assert_eq!(rt; text.bytes(), wanted.as_bytes());
+    Ok(())
+}
+
+const DECLARED: &[u8] =
+    b"worker 1 101 1000 1 hostA data\nworker 2 102 1001 2 hostB data\nfile 1 1 11 /srv/data a.txt\nfile 2 1 12 /srv/data b.txt\n";
+
+fn said(
+    alloc: Global,
+    words: &[&str],
+    parts: &[&[u8]],
+    failing: Vec<u64>,
+) -> Result<(Status, Page, Page), Fail> {
+    let mut owned = Vec::new(alloc);
+    for word in words {
+        owned.push(String::from_str(alloc, word)?)?;
+    }
+    let mut bytes = Vec::new(alloc);
+    for part in parts {
+        bytes.extend_from_slice(part)?;
+    }
+    let mut source = Bytes::new(bytes, 16, failing);
+    let mut out = Page::new(alloc, 4096, 7, Vec::new(alloc))?;
+    let mut err = Page::new(alloc, 256, 256, Vec::new(alloc))?;
+    let status = run(
+        alloc,
+        owned.as_slice(),
+        &mut source,
+        &mut out,
+        &mut err,
+        &Open,
+    );
+    Ok((status, out, err))
+}
+
+// What each script prints, with its status and what standard error has.
+#[test]
+fn runs_scripts(rt: HostRuntime) -> Result<(), Fail> {
+    let cases: [(&[u8], Status, &[u8], &[u8]); 9] = [
+        (b"", Status::Done, b"", b""),
+        (
+            b"phase 0\n1 open 1 0x3 rwd\n1 close 1\n1 close 1",
+            Status::Done,
+            b"1.1 open GRANTED\n1.2 close OK\n1.3 close FILE_CLOSED\n",
+            b"",
+        ),
+        (
+            b"phase 0\n1 open 1 0x2 r\nphase 1\n1 open 1 0x1 r\n1 open 2 0x1 rwd\nphase 2\n1 open 2 0x2 rwd\n",
+            Status::Done,
+            b"1.1 open GRANTED\n1.2 open SHARING_VIOLATION\n1.3 open GRANTED\n1.4 open GRANTED\n",
+            b"",
+        ),
+        (
+            b"phase 0\n1 open 1 0x3 rwd\n1 close 1\n1 close 1\n1 recv\n",
+            Status::NotBuilt,
+            b"",
+            b"opendb: line 9: not built\n",
+        ),
+        (b"\0", Status::NotBuilt, b"", b"opendb: line 5: not built\n"),
+        (
+            b"phase 000000000000000000000\n",
+            Status::NotBuilt,
+            b"",
+            b"opendb: line 5: not built\n",
+        ),
+        (
+            b"phase 0\n2 open 1 0x3 rwd\n",
+            Status::NotBuilt,
+            b"",
+            b"opendb: line 6: not built\n",
+        ),
+        (
+            b"phase 0\n1 open 1 0x3 rwd !take\n",
+            Status::NotBuilt,
+            b"",
+            b"opendb: line 6: not built\n",
+        ),
+        (b"# no phase, and no line end", Status::Done, b"", b""),
+    ];
+    for (script, status, printed, complained) in cases {
+        let (ended, out, err) = said(
+            rt.alloc(),
+            &["run"],
+            &[DECLARED, script],
+            Vec::new(rt.alloc()),
+        )?;
+        assert_eq!(rt; ended, status);
+        assert_eq!(rt; out.bytes(), printed);
+        assert_eq!(rt; err.bytes(), complained);
+    }
+    Ok(())
+}
+
+#[test]
+fn tells_why_a_script_was_not_run(rt: HostRuntime) -> Result<(), Fail> {
+    let second = vec![in rt.alloc(); 2]?;
+    let (ended, out, err) = said(rt.alloc(), &["run"], &[DECLARED], second)?;
+    assert_eq!(rt; ended, Status::ReadFault);
+    assert_eq!(rt; out.bytes(), b"".as_slice());
+    assert_eq!(rt; err.bytes(), b"opendb: read fault\n".as_slice());
+    let cases: [&[&str]; 5] = [
+        &[],
+        &["run", "run"],
+        &["--help"],
+        &["stress", "0"],
+        &["Run"],
+    ];
+    for words in cases {
+        let (ended, out, err) = said(rt.alloc(), words, &[DECLARED], Vec::new(rt.alloc()))?;
+        assert_eq!(rt; ended, Status::Usage);
+        assert_eq!(rt; out.bytes(), b"".as_slice());
+        assert_eq!(rt;
+            err.bytes(),
+            b"opendb: usage: run, smbstatus or stress\n".as_slice()
+        );
+    }
     Ok(())
 }

@@ -6,7 +6,7 @@ use Rattle.sid_core.specs.declared.setup.Setup.{Setup}
 use Rattle.serial_table.specs.declared.table.Table.{Table}
 use Rattle.serial_table.specs.declared.decision.Caller.{Caller}
 use Rattle.serial_table.specs.Share.{takes_part, is_hindered, share_conflict}
-use Rattle.serial_table.specs.View.{View, view}
+use Rattle.serial_table.specs.View.{view}
 use Rattle.serial_table.specs.Change.{change_all}
 use Rattle.serial_table.specs.Decide.{outcome}
 use Rattle.serial_table.specs.Step.{step}

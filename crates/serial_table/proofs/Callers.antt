@@ -1,5 +1,5 @@
 -- Who calls, and which entries are right.
-use Rattle.std.proofs.Common.{◌≡◌, ◌≢◌, ◌==◌, ℕ, Bool, true, false, cond, List, [], ◌∷◌, ◌++◌, find, Option, Some, None, refl, sym, ap, ◌∙◌}
+use Rattle.std.proofs.Common.{◌≡◌, ◌==◌, ℕ, List, [], find, Some, sym, ap, ◌∙◌}
 use Rattle.std.specs.Option.{option_map, option_map_or}
 use Rattle.std.specs.Prelude.{option_and_then}
 use Rattle.sid_core.specs.declared.ids.Moment.{Moment}
@@ -13,9 +13,9 @@ use Rattle.serial_table.specs.declared.rows.WorkerRow.{WorkerRow}
 use Rattle.serial_table.specs.declared.table.Table.{Table}
 use Rattle.serial_table.specs.declared.decision.Caller.{Caller}
 use Rattle.serial_table.specs.declared.decision.Stepped.{Stepped}
-use Rattle.serial_table.specs.View.{View, view}
+use Rattle.serial_table.specs.View.{view}
 use Rattle.serial_table.specs.Step.{caller_of, caller_if_alive, declared_at, step}
-use Rattle.serial_table.specs.History.{IsAnswered, called, after_event, posts_of_event}
+use Rattle.serial_table.specs.History.{called}
 use Rattle.serial_table.specs.Apply.{Accepts}
 
 pub caller_is : (setup : Setup) (t : Table) (worker number : ℕ) (moment : Moment) (infos : List WorkerInfo) (rows : List WorkerRow) (info : WorkerInfo) (row : WorkerRow)

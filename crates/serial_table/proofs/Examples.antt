@@ -1,8 +1,7 @@
 -- Worked examples: what the definitions answer and print.
-use Rattle.std.specs.Prelude.{◌≡◌, ℕ, List, [], ◌∷◌, ◌++◌, Option, Some, None, codes, refl, false, true}
+use Rattle.std.specs.Prelude.{◌≡◌, ℕ, List, [], ◌∷◌, ◌++◌, None, codes, refl, false}
 use Rattle.std.proofs.Common.{lit<, lit≤}
 use Rattle.std.specs.Fmt.{digits}
-use Rattle.sid_core.specs.declared.ids.Moment.{Moment}
 use Rattle.sid_core.specs.declared.entry.Entry.{Entry}
 use Rattle.sid_core.specs.declared.entry.Event.TheVariants.{Called}
 use Rattle.sid_core.specs.declared.call.Call.{Call}
@@ -10,16 +9,13 @@ use Rattle.sid_core.specs.declared.call.Call.TheVariants.{OpenFile, Close}
 use Rattle.sid_core.specs.declared.reply.Reply.{Reply}
 use Rattle.sid_core.specs.declared.reply.Reply.TheVariants.{Granted, Done, FileClosed, SharingViolation}
 use Rattle.sid_core.specs.declared.setup.Setup.{Setup}
-use Rattle.sid_core.specs.declared.setup.WorkerInfo.{WorkerInfo}
-use Rattle.sid_core.specs.declared.setup.FileInfo.{FileInfo}
-use Rattle.serial_table.specs.declared.table.Table.{Table}
 use Rattle.serial_table.specs.Settle.{settle, settled}
 use Rattle.serial_table.specs.declared.decision.Caller.{Caller}
 use Rattle.serial_table.specs.Decision.{conclude}
 use Rattle.serial_table.specs.Open.{open_file}
 use Rattle.serial_table.specs.Close.{close}
 use Rattle.serial_table.specs.Step.{caller_of}
-use Rattle.serial_table.specs.History.{start, AreLegal, IsLegalCall, IsAnswered, after, table_at}
+use Rattle.serial_table.specs.History.{start, AreLegal}
 use Rattle.serial_table.specs.Text.{text}
 
 -- two workers on two hosts, and two files

@@ -1,5 +1,5 @@
 -- The first row that passes, by `find` and at the head of the filtered list.
-use Rattle.std.proofs.Common.{◌≡◌, Bool, true, false, cond, List, [], ◌∷◌, filter, find, Option, Some, None, refl, sym, ap}
+use Rattle.std.proofs.Common.{◌≡◌, Bool, true, false, cond, List, [], ◌∷◌, filter, find, Some, None, refl, ap}
 use Rattle.sid_core.specs.declared.reply.Reply.TheVariants.{FileClosed}
 use Rattle.serial_table.specs.declared.rows.OpenRow.{OpenRow}
 use Rattle.serial_table.specs.Close.{close_one}

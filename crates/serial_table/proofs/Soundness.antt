@@ -1,7 +1,6 @@
 -- Legal histories of the served calls keep the table sound.
-use Rattle.std.proofs.Common.{◌≡◌, ◌==◌, ℕ, zero, suc, ◌+◌, ◌<◌, Bool, true, false, cond, not, ◌&&◌, ◌||◌, List, [], ◌∷◌, ◌++◌, filter, map, Option, Some, None, refl, sym, ap, ◌∙◌, subst, append_assoc, append-nil, find, arith, eq-eqb}
-use Rattle.std.specs.Prelude.{nat_eq}
-use Rattle.std.specs.List.{AllByRecursion, IsDistinct, list_any, list_all, flat_map}
+use Rattle.std.proofs.Common.{◌≡◌, ◌==◌, ℕ, ◌<◌, Bool, true, false, cond, not, ◌&&◌, ◌||◌, List, [], ◌∷◌, ◌++◌, filter, map, Some, None, refl, sym, ap, ◌∙◌, subst, append_assoc, append-nil, find, arith, eq-eqb}
+use Rattle.std.specs.List.{AllByRecursion, IsDistinct, list_any, list_all}
 use Rattle.std.specs.Option.{option_map, option_map_or}
 use Rattle.std.proofs.lemmas.Bool.{eqb-true}
 use Rattle.std.proofs.lemmas.Grind.{flat_map-append}
@@ -15,18 +14,16 @@ use Rattle.sid_core.specs.declared.ids.Spot.TheVariants.{OpenOf}
 use Rattle.sid_core.specs.declared.entry.Entry.{Entry}
 use Rattle.sid_core.specs.declared.entry.Event.{Event}
 use Rattle.sid_core.specs.declared.entry.Event.TheVariants.{Called, Died, Tidied}
-use Rattle.sid_core.specs.declared.entry.Post.{Post}
 use Rattle.sid_core.specs.declared.call.Call.{Call}
 use Rattle.sid_core.specs.declared.call.Call.TheVariants.{OpenFile, Close, Ack, Lock, Unlock, Read, Write, GLock, GUnlock, Recv, Disconnect, Reconnect, Scavenge, Tidy, Status}
 use Rattle.sid_core.specs.declared.reply.Reply.{Reply}
 use Rattle.sid_core.specs.declared.setup.Setup.{Setup}
 use Rattle.sid_core.specs.declared.setup.WorkerInfo.{WorkerInfo}
-use Rattle.sid_core.specs.Ids.{same_id, same_sid, same_spot, same_name}
+use Rattle.sid_core.specs.Ids.{same_spot, same_name}
 use Rattle.sid_core.specs.Setup.{IsSetup}
 use Rattle.serial_table.specs.declared.rows.OpenRow.{OpenRow}
 use Rattle.serial_table.specs.declared.table.Table.{Table}
-use Rattle.serial_table.specs.declared.change.Change.{Change}
-use Rattle.serial_table.specs.declared.change.Change.TheVariants.{AddOpen, DropOpen, AddWaiter, DropWaiter, DropWaiters, Send, Settle}
+use Rattle.serial_table.specs.declared.change.Change.TheVariants.{AddOpen, DropOpen, DropWaiter, DropWaiters, Settle}
 use Rattle.serial_table.specs.declared.decision.Caller.{Caller}
 use Rattle.serial_table.specs.declared.decision.Decision.{Decision}
 use Rattle.serial_table.specs.declared.decision.Stepped.{Stepped}
@@ -37,9 +34,9 @@ use Rattle.serial_table.specs.Wake.{wake, wakes}
 use Rattle.serial_table.specs.Decision.{settling, finishing, woken, all_posts, conclude}
 use Rattle.serial_table.specs.Open.{conflicts, new_open, granted, refused, open_file}
 use Rattle.serial_table.specs.Close.{close, close_one}
-use Rattle.serial_table.specs.Decide.{decide, outcome, is_served}
-use Rattle.serial_table.specs.Step.{caller_of, declared_at, step}
-use Rattle.serial_table.specs.History.{start, start_workers, called, after_event, after_entry, after_all, after, IsAnswered, IsLegalCall, IsLegalEvent, IsLegalEntry, AreLegal, IsLegal, call_number, own_number, numbers_of, RisesAbove}
+use Rattle.serial_table.specs.Decide.{decide, is_served}
+use Rattle.serial_table.specs.Step.{declared_at, step}
+use Rattle.serial_table.specs.History.{start, start_workers, called, after_event, after_entry, after_all, after, IsLegalEvent, AreLegal, IsLegal, own_number, numbers_of, RisesAbove}
 use Rattle.serial_table.specs.Sound.{IsSound, have_same_id, have_same_handle, have_same_name, has_its_lease, holds_handle, may_stay, has_open, is_sound_lease, has_its_open, waits_among_living, cannot_both_hold, cannot_both_wait}
 use Rattle.serial_table.proofs.Differing.{all_filtered, all_pushed, all_weaker, distinct_none, distinct_filtered, distinct_pushed, all_true, is_among, is_below, among_more, among_last}
 use Rattle.serial_table.proofs.Settling.{settle_without_leases, and_false}

@@ -1,5 +1,5 @@
 -- The rows of the workers at the start.
-use Rattle.std.proofs.Common.{◌≡◌, ℕ, suc, ◌+◌, ◌<◌, List, [], ◌∷◌, ◌++◌, length, take, get_or, refl, sym, ap, ◌∙◌, arith, add-zero, add-suc, add-one}
+use Rattle.std.proofs.Common.{◌≡◌, ℕ, suc, ◌+◌, ◌<◌, List, [], ◌∷◌, ◌++◌, length, take, get_or, refl, sym, ap, ◌∙◌, arith, add-zero}
 use Rattle.std.proofs.lemmas.List.{take_more, length-take-le}
 use Rattle.sid_core.specs.declared.setup.WorkerInfo.{WorkerInfo}
 use Rattle.serial_table.specs.declared.rows.WorkerRow.{WorkerRow}

@@ -1,5 +1,5 @@
 -- The workers at the start, and who calls while they are as they were.
-use Rattle.std.proofs.Common.{◌≡◌, ◌==◌, ◌<◌, ◌≤◌, ℕ, zero, suc, length, arith, Bool, true, false, cond, ◌&&◌, List, [], ◌∷◌, find, map, Option, Some, None, IsTrue, refl, sym, ap, ◌∙◌, eq-eqb}
+use Rattle.std.proofs.Common.{◌≡◌, ◌==◌, ◌<◌, ◌≤◌, ℕ, zero, suc, length, arith, Bool, true, false, cond, ◌&&◌, List, [], ◌∷◌, find, map, Option, Some, None, refl, sym, ap, ◌∙◌, eq-eqb}
 use Rattle.std.specs.Prelude.{option_and_then, slice_get, nat_eq}
 use Rattle.std.specs.List.{AllByRecursion, IsDistinct}
 use Rattle.std.specs.Option.{option_map, option_map_or}
@@ -15,7 +15,7 @@ use Rattle.serial_table.specs.declared.change.Change.TheVariants.{AddOpen, DropO
 use Rattle.serial_table.specs.Settle.{settle}
 use Rattle.serial_table.specs.Change.{apply, apply_all}
 use Rattle.serial_table.specs.declared.decision.Caller.{Caller}
-use Rattle.serial_table.specs.View.{View, view}
+use Rattle.serial_table.specs.View.{view}
 use Rattle.serial_table.specs.Step.{caller_of, caller_if_alive, declared_at, step}
 use Rattle.serial_table.specs.Decide.{outcome}
 use Rattle.serial_table.specs.declared.decision.Stepped.{Stepped}

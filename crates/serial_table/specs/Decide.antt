@@ -1,7 +1,7 @@
 -- Which rules each call goes by. Calls that aren't served have none yet.
-use Rattle.std.specs.Prelude.{ℕ, zero, suc, Bool, true, false, None, IsTrue}
+use Rattle.std.specs.Prelude.{zero, Bool, true, false, None}
 use Rattle.sid_core.specs.declared.call.Call.{Call}
-use Rattle.sid_core.specs.declared.call.Call.TheVariants.{OpenFile, Close, Ack, Lock, Unlock, Read, Write, GLock, GUnlock, Recv, Disconnect, Reconnect, Scavenge, Tidy, Status}
+use Rattle.sid_core.specs.declared.call.Call.TheVariants.{OpenFile, Close}
 use Rattle.sid_core.specs.declared.reply.Reply.TheVariants.{Unsuccessful}
 use Rattle.serial_table.specs.View.{View}
 use Rattle.serial_table.specs.declared.decision.Caller.{Caller}

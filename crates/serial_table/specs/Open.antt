@@ -1,5 +1,5 @@
 -- `open` without a lease, of files whose opens have none.
-use Rattle.std.specs.Prelude.{ℕ, Bool, false, List, [], ◌∷◌, None, if◌then◌else◌}
+use Rattle.std.specs.Prelude.{ℕ, Bool, false, [], ◌∷◌, None, if◌then◌else◌}
 use Rattle.std.specs.List.{list_any}
 use Rattle.sid_core.specs.declared.bits.Access.{Access}
 use Rattle.sid_core.specs.declared.bits.Share.{Share}

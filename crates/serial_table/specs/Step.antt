@@ -1,9 +1,7 @@
 -- One call at a table.
-use Rattle.std.specs.Prelude.{◌≡◌, ℕ, zero, suc, ◌==◌, List, Option, Some, None, option_and_then, slice_get, if◌then◌else◌}
+use Rattle.std.specs.Prelude.{ℕ, zero, suc, List, Option, Some, None, option_and_then, slice_get, if◌then◌else◌}
 use Rattle.sid_core.specs.declared.ids.Moment.{Moment}
-use Rattle.sid_core.specs.declared.entry.Post.{Post}
 use Rattle.sid_core.specs.declared.call.Call.{Call}
-use Rattle.sid_core.specs.declared.reply.Reply.{Reply}
 use Rattle.sid_core.specs.declared.setup.Setup.{Setup}
 use Rattle.sid_core.specs.declared.setup.WorkerInfo.{WorkerInfo}
 use Rattle.serial_table.specs.declared.rows.WorkerRow.{WorkerRow}

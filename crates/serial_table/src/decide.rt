@@ -168,6 +168,22 @@ fn close(table: &Table, caller: &Caller, handle: u32) -> Result<Decision, OutOfM
     }
 }
 
+/// Whether the table serves a call: an `open` without lease, durable seconds and overwrite, or a `close`.
+pub fn is_served(call: &Call) -> bool
+    ensures { result ≡ is_served call.now }
+{
+    match call {
+        Call::OpenFile {
+            lease: None,
+            durable: 0,
+            overwrite: false,
+            ..
+        }
+        | Call::Close { .. } => true,
+        _ => false,
+    }
+}
+
 /// What a served call decides.
 pub(crate) fn decide(table: &Table, caller: &Caller, call: Call) -> Result<Decision, OutOfMemory>
     requires { IsTrue (is_served call) }

@@ -17,6 +17,7 @@ mod wake;
 
 pub use apply::Apply;
 pub use change::Change;
+pub use decide::is_served;
 pub use decision::{Caller, Candidate, Decision, Stepped};
 pub use laws::{
     alike_tables_step_alike, changes_go_by_key, declared_workers_call, histories_go_on,

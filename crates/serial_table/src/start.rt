@@ -1,5 +1,4 @@
 ghost use Rattle.std.specs.Prelude.{◌≡◌, ◌≤◌, length, IfOk};
-ghost use Rattle.sid_core.specs.Setup.{IsSetup};
 ghost use Rattle.serial_table.specs.History.{start, start_workers};
 
 use crate::rows::WorkerRow;
@@ -29,7 +28,7 @@ fn start_workers(alloc: Global, workers: &[WorkerInfo]) -> Result<Vec<WorkerRow>
 impl Table {
     /// The table in which nothing is open, and each declared worker is alive in its session 1, connected at moment 0.
     pub fn start(alloc: Global, setup: &Setup) -> Result<Table, OutOfMemory>
-        requires { IsSetup setup.now }
+        requires { length setup.now.workers ≤ 64 }
         ensures { IfOk result (λ table. table ≡ start setup.now) }
     {
         let workers = start_workers(alloc, setup.workers.as_slice())?;

@@ -81,3 +81,46 @@ fn run_input<S: Source, O: Sink, G: Gate>(
         },
     }
 }
+
+/// Runs the program: `words` are those after its name. Prints on `out` the history that the script from `source` makes, tells on
+/// `err` why it ended where that isn't the script's end, and tells `gate` of each answer. One thread, one worker so far.
+pub fn run<S: Source, O: Sink, E: Sink, G: Gate>(
+    alloc: Global,
+    words: &[String],
+    source: &mut S,
+    out: &mut O,
+    err: &mut E,
+    gate: &G,
+) -> Status
+    // The source was read to its end, its bytes spell a script, and `out` gained the text of a legal history that fits it.
+    ensures done { result ≡ Status.Done → HasRun (S.left source.old) (S.left source.new) (O.written out.old) (O.written out.new) }
+    ensures usage { (result ≡ Status.Usage) ↔ (command (map string_bytes words.now) ≡ None) }
+    ensures not_built { result ≡ Status.NotBuilt → (line : ℕ) × StopsAt (S.left source.old) (S.left source.new) line }
+    ensures too_large { result ≡ Status.TooLarge → TakesBefore (S.left source.old) (S.left source.new) InputError.TooLarge }
+    ensures read_fault { result ≡ Status.ReadFault → Rose (S.faults source.old) (S.faults source.new) }
+    ensures write_fault { result ≡ Status.WriteFault → Rose (O.faults out.old) (O.faults out.new) × ReadsScript (S.left source.old) (S.left source.new) }
+
+    // Where no read and no write failed, the bytes decide how it ends, but for want of memory.
+    ensures complete { command (map string_bytes words.now) ≡ Some Command.Run → IfSome (S.left source.old) (λ bytes.
+        (Rose (S.faults source.old) (S.faults source.new) → ⊥) → (Rose (O.faults out.old) (O.faults out.new) → ⊥) → IsExpected result bytes) }
+
+    // Where no write to `err` failed, it gained the status's text, which names the line that isn't built.
+    ensures complaint { (Rose (E.faults err.old) (E.faults err.new) → ⊥) → (line : ℕ)
+        × Appends (E.written err.old) (E.written err.new) (complaint result line)
+        × (result ≡ Status.NotBuilt → StopsAt (S.left source.old) (S.left source.new) line) }
+
+    // Nothing is printed with the other statuses.
+    ensures silent { IsTrue (is_silent result) → O.written out.new ≡ O.written out.old }
+    ensures untouched { result ≡ Status.Usage → S.left source.new ≡ S.left source.old }
+    ensures source_faults { S.faults source.old ≤ S.faults source.new }
+    ensures out_faults { O.faults out.old ≤ O.faults out.new }
+    ensures err_faults { E.faults err.old ≤ E.faults err.new }
+{
+    let Some(Command::Run) = Command::from_words(words) else {
+        complain(err, Status::Usage, 0);
+        return Status::Usage;
+    };
+    let ending = run_input(alloc, source, out, gate);
+    complain(err, ending.status, ending.line);
+    ending.status
+}
