@@ -1,5 +1,5 @@
 -- Which chain a key goes to.
-use Rattle.std.specs.Prelude.{ℕ, ◌+◌, ◌-◌, ◌*◌, ◌%◌, ◌^◌, List, [], ◌∷◌}
+use Rattle.std.specs.Prelude.{ℕ, ◌+◌, ◌-◌, ◌*◌, ◌%◌, ◌^◌, List, fold}
 use Rattle.chain_map.specs.declared.db.Db.{Db}
 use Rattle.chain_map.specs.declared.db.Db.TheVariants.{Opens, GLock, Locking, Leases, Register, Brlock, Mailbox}
 
@@ -13,13 +13,12 @@ db_number Register = 5
 db_number Brlock = 6
 db_number Mailbox = 7
 
--- the hash of the bytes that follow on those with this hash
-abbrev pub hash_after : ℕ → List ℕ → ℕ
-hash_after hash [] = hash
-hash_after hash (byte ∷ bytes) = hash_after ((hash * 31 + byte) % 2 ^ 32) bytes
+-- the hash of bytes, and of one more behind them
+abbrev pub hash_with : ℕ → ℕ → ℕ
+hash_with hash byte = (hash * 31 + byte) % 2 ^ 32
 
 abbrev pub key_hash : List ℕ → ℕ
-key_hash key = hash_after 0 key
+key_hash key = fold hash_with 0 key
 
 -- each database has so many chains, one database after another
 abbrev pub chain_number : Db → List ℕ → ℕ → ℕ

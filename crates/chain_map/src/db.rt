@@ -42,9 +42,8 @@ pub fn chain_of(db: Db, key: &[u8], chains: u32) -> u32
 fn hash_of(key: &[u8]) -> u32
     ensures { result ≡ key_hash key.now }
 {
-    let mut hash: u32 = 0;
-    for &byte in key {
-        hash = ((u64::from(hash) * 31 + u64::from(byte)) % (1 << 32)) as u32;
-    }
-    hash
+    key.iter().fold(
+        0,
+        |hash: u32, &byte| ((u64::from(hash) * 31 + u64::from(byte)) % (1 << 32)) as u32,
+    )
 }
