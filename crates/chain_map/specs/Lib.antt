@@ -1,3 +1,4 @@
 pub mod Pairs
 pub mod Place
 pub mod Hash
+pub mod Leaves

@@ -5,7 +5,9 @@ mod chain;
 mod db;
 mod entries;
 mod laws;
+mod leaf;
 mod pair;
+mod sorted;
 
 pub use chain::Chain;
 pub use db::{Db, chain_of};

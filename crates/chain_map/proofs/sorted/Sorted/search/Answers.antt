@@ -2,7 +2,7 @@ use Rattle.std.proofs.Common.{rules}
 use Rattle.std.proofs.lemmas.Fn.{always_returns_same}
 use Rattle.chain_map.specs.Pairs.{byte_order}
 use Rattle.chain_map.proofs.Found.{searched}
-use Rattle.chain_map.proofs.chain.Chain.search.Goals as goal
+use Rattle.chain_map.proofs.sorted.Sorted.search.Goals as goal
 
 pub returns : goal.returns
 returns c =
