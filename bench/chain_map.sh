@@ -18,13 +18,11 @@ echo '|---|---|---|---|---|---|---|---|'
 for pairs in ${*:-10 1000 100000}; do
     row="| $pairs |"
     for work in copy find replace insert remove change entries; do
-        times=100
-        case $work in
-        copy | change | entries) [ "$pairs" -gt 10000 ] && times=10 ;;
-        remove) [ "$pairs" -lt 100 ] && times=10 ;;
-        esac
-        idle=$(instructions "idle $pairs $times")
-        row="$row $((($(instructions "$work $pairs $times") - idle) / times)) |"
+        times=$((pairs < 40 ? pairs / 2 : 20))
+        # what is done once, as filling the chain, cancels out
+        once=$(instructions "$work $pairs $times")
+        twice=$(instructions "$work $pairs $((2 * times))")
+        row="$row $(((twice - once) / times)) |"
     done
     echo "$row"
 done
