@@ -1,0 +1,20 @@
+//! One chain of a database: pairs of a key and a value in the order of their keys, and which chain a key goes to.
+#![tactic(auto)]
+
+mod chain;
+mod db;
+mod entries;
+mod laws;
+mod leaf;
+mod pair;
+mod sorted;
+
+pub use chain::Chain;
+pub use db::{Db, chain_of};
+pub use entries::ChainEntries;
+pub use laws::{
+    edits_keep_order, look_ups_after_put, look_ups_after_remove, look_ups_tell_chains_apart,
+};
+
+#[cfg(test)]
+mod tests;
