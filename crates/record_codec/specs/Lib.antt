@@ -1,0 +1,4 @@
+pub mod Codec
+pub mod Fields
+pub mod Reads
+pub mod GLock

@@ -1,0 +1,37 @@
+ghost use Rattle.std.specs.Prelude.{◌≡◌};
+ghost use Rattle.record_codec.specs.declared.fault.Unpack.TheVariants.{OutOfMemory};
+
+use std::alloc::{AllocError, AllocFailed};
+
+/// Why bytes could not be unpacked: the first fault of the bytes, or want of memory.
+#[derive(Clone, Copy, Debug, PartialEq, Eq)]
+pub enum Unpack {
+    /// The first field isn't the record's magic.
+    Magic,
+    /// The second field isn't a version that is known.
+    Version,
+    /// Fewer bytes are left than a field needs.
+    Short,
+    /// Bytes follow the last field.
+    Trailing,
+    /// The field with this number has a value outside its set.
+    BadField(u32),
+    /// The allocator refused.
+    OutOfMemory,
+}
+
+impl From<AllocError> for Unpack {
+    ghost from_gives = { λ _ e. e ≡ OutOfMemory };
+
+    fn from(_e: AllocError) -> Unpack {
+        Unpack::OutOfMemory
+    }
+}
+
+impl<T: Drop> From<AllocFailed<T>> for Unpack {
+    ghost from_gives = { λ _ e. e ≡ OutOfMemory };
+
+    fn from(_e: AllocFailed<T>) -> Unpack {
+        Unpack::OutOfMemory
+    }
+}
