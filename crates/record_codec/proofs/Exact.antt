@@ -9,7 +9,7 @@ use Rattle.byteorder.specs.Endian.{little_bytes, little_number}
 use Rattle.byteorder.specs.Numbers.{little_number-reads_back, little_from-lt, length-bytes_low_first}
 use Rattle.record_codec.specs.declared.fault.Unpack.{Unpack}
 use Rattle.record_codec.specs.declared.fault.Unpack.TheVariants.{Short}
-use Rattle.record_codec.specs.Codec.{Codec, ◌>>=◌, Follows, raw, number, read_run, run, ◌⨾◌, via, times_fault, times_read, times}
+use Rattle.record_codec.specs.Codec.{Codec, ◌>>=◌, Follows, raw, number, read_run, run, ◌⨾◌, left_out, via, times_fault, times_read, times}
 use Rattle.record_codec.proofs.Bytes.{IsBytes, IsBytes-after, bytes-of-number}
 
 pub record IsExact {A : Type 0} (c : Codec A) : Type 0 where
@@ -176,6 +176,16 @@ seq_exact {A = A} {B = B} c d first then_ = record {
       | inl f ↦ rw (first.faulty bytes e f) refl
       | inr a ↦ rw (a.3, first.again a.0 a.1 a.2, (then_ a.0).faulty a.1 e a.4) refl
     ];
+}
+
+pub left_out_exact : {A : Type 0} (x : A) → IsExact (left_out x)
+left_out_exact {A = A} x = record {
+  takes = λ bytes p fits e.
+    let made : A × List ℕ = (x, bytes) in
+    subst (λ (q : A × List ℕ). (q.0 ≡ x) × (bytes ≡ q.1)) (ok_is made p e) (refl, refl);
+  again = λ y rest v. ap (λ (z : A). Ok (z, rest)) (sym v);
+  fails = λ bytes e fits h. absurd cc;
+  faulty = λ bytes e h. absurd h;
 }
 
 pub via_exact : {A B : Type 0} (make : A → B) (parts : B → A) (c : Codec A) → ((y : B) → make (parts y) ≡ y) → ((x : A) → c.valid x → parts (make x) ≡ x) → IsExact c → IsExact (via make parts c)

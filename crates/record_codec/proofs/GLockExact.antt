@@ -1,5 +1,5 @@
 -- The record of a global lock is exact.
-use Rattle.std.proofs.Common.{refl}
+use Rattle.std.proofs.Common.{refl, lit<}
 use Rattle.std.specs.Prelude.{codes}
 use Rattle.record_codec.specs.Codec.{◌⨾◌}
 use Rattle.record_codec.specs.Fields.{headed, u32, sid, mode, truth, list}
@@ -19,5 +19,5 @@ upgrade_watch_exact = via_exact _ _ _ (λ y. refl) (λ x v. refl)
 
 pub glock_exact : IsExact glock
 unfolding glock
-glock_exact = headed_exact (codes "GLCK") _ (via_exact _ _ _ (λ y. refl) (λ x v. refl)
+glock_exact = headed_exact (codes "GLCK") _ (lit< tt) (via_exact _ _ _ (λ y. refl) (λ x v. refl)
     (seq_exact _ _ (list_exact 3 hold hold_exact) (λ _. list_exact 7 upgrade_watch upgrade_watch_exact)))

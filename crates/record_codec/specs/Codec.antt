@@ -69,6 +69,15 @@ c ⨾ d = record {
   read = λ bytes. c.read bytes >>= λ x. (d x.0).read x.1 >>= λ y. Ok ((x.0, y.0), y.1);
 }
 
+-- A value that is always the same and has no bytes.
+abbrev pub left_out : {A : Type 0} → A → Codec A
+left_out x = record {
+  spell = λ _. [];
+  valid = λ y. y ≡ x;
+  fault = λ bytes e. ⊥;
+  read = λ bytes. Ok (x, bytes);
+}
+
 -- Fields as the parts of another value: how they make it, and which they are.
 abbrev pub via : {A B : Type 0} → (A → B) → (B → A) → Codec A → Codec B
 via make parts c = record {
