@@ -208,14 +208,14 @@ via_exact {A = A} {B = B} make parts c made taken exact = record {
 
 -- ---- so many items
 
-times_takes : {A : Type 0} (item : Codec A) → IsExact item → (n : ℕ) (bytes : List ℕ) (x : List A × List ℕ) → IsBytes bytes → times_read item n bytes ≡ Ok x → ((length x.0 ≡ n) × AllByRecursion item.valid x.0) × (bytes ≡ flat_map item.spell x.0 ++ x.1)
+times_takes : {A : Type 0} (item : Codec A) → IsExact item → (n : ℕ) (bytes : List ℕ) (x : List A × List ℕ) → IsBytes bytes → times_read item.read n bytes ≡ Ok x → ((length x.0 ≡ n) × AllByRecursion item.valid x.0) × (bytes ≡ flat_map item.spell x.0 ++ x.1)
 unfolding times_read
 times_takes {A = A} item exact zero bytes x fits e =
     let none : List A × List ℕ = ([], bytes) in
     subst (λ (y : List A × List ℕ). ((length y.0 ≡ 0) × AllByRecursion item.valid y.0) × (bytes ≡ flat_map item.spell y.0 ++ y.1)) (ok_is none x e) ((refl, tt), refl)
 times_takes {A = A} item exact (suc n) bytes x fits e =
-    let a = bind_ok (item.read bytes) (λ y. times_read item n y.1 >>= λ ys. Ok (y.0 ∷ ys.0, ys.1)) x e in
-    let b = bind_ok (times_read item n a.0.1) (λ ys. Ok (a.0.0 ∷ ys.0, ys.1)) x a.2 in
+    let a = bind_ok (item.read bytes) (λ y. times_read item.read n y.1 >>= λ ys. Ok (y.0 ∷ ys.0, ys.1)) x e in
+    let b = bind_ok (times_read item.read n a.0.1) (λ ys. Ok (a.0.0 ∷ ys.0, ys.1)) x a.2 in
     let s = exact.takes bytes a.0 fits a.1 in
     let t = times_takes item exact n a.0.1 b.0 (IsBytes-after bytes (item.spell a.0.0) a.0.1 fits s.1) b.1 in
     let made : List A × List ℕ = (a.0.0 ∷ b.0.0, b.0.1) in
@@ -223,7 +223,7 @@ times_takes {A = A} item exact (suc n) bytes x fits e =
     subst (λ (y : List A × List ℕ). ((length y.0 ≡ suc n) × AllByRecursion item.valid y.0) × (bytes ≡ flat_map item.spell y.0 ++ y.1)) (ok_is made x b.2)
       ((ap suc t.0.0, (s.0, t.0.1)), whole)
 
-times_again : {A : Type 0} (item : Codec A) → IsExact item → (n : ℕ) (xs : List A) (rest : List ℕ) → (length xs ≡ n) × AllByRecursion item.valid xs → times_read item n (flat_map item.spell xs ++ rest) ≡ Ok (xs, rest)
+times_again : {A : Type 0} (item : Codec A) → IsExact item → (n : ℕ) (xs : List A) (rest : List ℕ) → (length xs ≡ n) × AllByRecursion item.valid xs → times_read item.read n (flat_map item.spell xs ++ rest) ≡ Ok (xs, rest)
 unfolding times_read
 times_again item exact zero [] rest v = refl
 times_again item exact zero (x ∷ xs) rest v = absurd (omega (arith, v.0))
@@ -232,22 +232,22 @@ times_again item exact (suc n) (x ∷ xs) rest v =
     let len : length xs ≡ n = omega (arith, v.0) in
     rw (append_assoc (item.spell x) (flat_map item.spell xs) rest, exact.again x (flat_map item.spell xs ++ rest) v.1.0, times_again item exact n xs rest (len, v.1.1)) refl
 
-times_fails : {A : Type 0} (item : Codec A) → IsExact item → (n : ℕ) (bytes : List ℕ) (e : Unpack) → IsBytes bytes → times_read item n bytes ≡ Err e → times_fault item n bytes e
+times_fails : {A : Type 0} (item : Codec A) → IsExact item → (n : ℕ) (bytes : List ℕ) (e : Unpack) → IsBytes bytes → times_read item.read n bytes ≡ Err e → times_fault item n bytes e
 unfolding times_read
 times_fails item exact zero bytes e fits h = absurd cc
 times_fails item exact (suc n) bytes e fits h =
-    elim (bind_err (item.read bytes) (λ y. times_read item n y.1 >>= λ ys. Ok (y.0 ∷ ys.0, ys.1)) e h) [
+    elim (bind_err (item.read bytes) (λ y. times_read item.read n y.1 >>= λ ys. Ok (y.0 ∷ ys.0, ys.1)) e h) [
       | inl f ↦ inl (exact.fails bytes e fits f)
       | inr a ↦
         let s = exact.takes bytes a.0 fits a.1 in
         let after = IsBytes-after bytes (item.spell a.0.0) a.0.1 fits s.1 in
-        elim (bind_err (times_read item n a.0.1) (λ ys. Ok (a.0.0 ∷ ys.0, ys.1)) e a.2) [
+        elim (bind_err (times_read item.read n a.0.1) (λ ys. Ok (a.0.0 ∷ ys.0, ys.1)) e a.2) [
           | inl f ↦ inr (a.0.0, a.0.1, s.0, s.1, times_fails item exact n a.0.1 e after f)
           | inr b ↦ absurd cc
         ]
     ]
 
-times_faulty : {A : Type 0} (item : Codec A) → IsExact item → (n : ℕ) (bytes : List ℕ) (e : Unpack) → times_fault item n bytes e → times_read item n bytes ≡ Err e
+times_faulty : {A : Type 0} (item : Codec A) → IsExact item → (n : ℕ) (bytes : List ℕ) (e : Unpack) → times_fault item n bytes e → times_read item.read n bytes ≡ Err e
 unfolding times_read
 times_faulty item exact zero bytes e h = absurd h
 times_faulty item exact (suc n) bytes e h = elim h [

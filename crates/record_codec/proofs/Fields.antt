@@ -10,9 +10,13 @@ use Rattle.sid_core.specs.Values.{is_state}
 use Rattle.record_codec.specs.declared.fault.Unpack.{Unpack}
 use Rattle.record_codec.specs.declared.fault.Unpack.TheVariants.{Magic, Version, BadField}
 use Rattle.record_codec.specs.Codec.{Codec, ◌>>=◌, number, run, ◌⨾◌, left_out, via, times}
-use Rattle.record_codec.specs.Fields.{any, only, header, headed, state_in, state, watch, u8_in, u32_in, u64_in, u32, u64, truth, truth_of, truth_byte, mode, mode_of, mode_byte, sid, open_id, list_in, list, text, is_text_length, is_printable}
+use Rattle.record_codec.specs.Fields.{any, only, header, headed, state_in, state, watch, u8_in, u32_in, u64_in, u32, u64, truth, truth_in, truth_of, truth_byte, mode, mode_of, mode_byte, sid, open_id, list_in, list, text, is_text_length, is_printable}
 use Rattle.record_codec.proofs.Exact.{IsExact, bind_ok, bind_err, number_exact, run_exact, seq_exact, left_out_exact, via_exact, times_exact}
 use Rattle.record_codec.proofs.Bytes.{IsBytes-after}
+
+pub both : (a b : Bool) → IsTrue (a && b) → IsTrue a × IsTrue b
+both true b h = (refl, h)
+both false b h = absurd cc
 
 pub u8_in_exact : (field : ℕ) (set : ℕ → Bool) → IsExact (u8_in field set)
 u8_in_exact field set = number_exact 1 set (BadField field)
@@ -87,6 +91,10 @@ truth_taken (suc (suc n)) lt = absurd (omega arith)
 pub truth_exact : (field : ℕ) → IsExact (truth field)
 truth_exact field =
     via_exact truth_of truth_byte (u8_in field (λ n. nat_lt n 2)) truth_made (λ n v. truth_taken n (ltb-true _ _ v.1)) (u8_in_exact field (λ n. nat_lt n 2))
+
+pub truth_in_exact : (field : ℕ) (set : ℕ → Bool) → IsExact (truth_in field set)
+truth_in_exact field set =
+    via_exact truth_of truth_byte (u8_in field (λ n. nat_lt n 2 && set n)) truth_made (λ n v. truth_taken n (ltb-true _ _ (both _ _ v.1).0)) (u8_in_exact field (λ n. nat_lt n 2 && set n))
 
 mode_made : (m : Mode) → mode_of (mode_byte m) ≡ m
 mode_made Shared = refl

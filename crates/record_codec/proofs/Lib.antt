@@ -4,3 +4,9 @@ pub mod Whole
 pub mod Fields
 pub mod GLockExact
 pub mod Loop
+pub mod OpenExact
+pub mod ShareExact
+pub mod LeaseExact
+pub mod RegisterExact
+pub mod RangeExact
+pub mod MailExact

@@ -93,9 +93,9 @@ abbrev pub times_fault : {A : Type 0} → Codec A → ℕ → List ℕ → Unpac
 times_fault item zero bytes e = ⊥
 times_fault item (suc n) bytes e = item.fault bytes e ⊎ Follows item (λ _ rest. times_fault item n rest e) bytes
 
-unfoldable pub times_read : {A : Type 0} → Codec A → ℕ → List ℕ → Result (List A × List ℕ) Unpack
-times_read item zero bytes = Ok ([], bytes)
-times_read item (suc n) bytes = item.read bytes >>= λ x. times_read item n x.1 >>= λ xs. Ok (x.0 ∷ xs.0, xs.1)
+unfoldable pub times_read : {A : Type 0} → (List ℕ → Result (A × List ℕ) Unpack) → ℕ → List ℕ → Result (List A × List ℕ) Unpack
+times_read read zero bytes = Ok ([], bytes)
+times_read read (suc n) bytes = read bytes >>= λ x. times_read read n x.1 >>= λ xs. Ok (x.0 ∷ xs.0, xs.1)
 
 -- So many items, one after the other.
 abbrev pub times : {A : Type 0} → Codec A → ℕ → Codec (List A)
@@ -103,7 +103,7 @@ times item n = record {
   spell = flat_map item.spell;
   valid = λ xs. (length xs ≡ n) × AllByRecursion item.valid xs;
   fault = times_fault item n;
-  read = times_read item n;
+  read = times_read item.read n;
 }
 
 -- ---- all of the bytes

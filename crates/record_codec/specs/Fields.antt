@@ -82,6 +82,9 @@ truth_byte true = 1
 abbrev pub truth : ℕ → Codec Bool
 truth field = via truth_of truth_byte (u8_in field (λ n. nat_lt n 2))
 
+abbrev pub truth_in : ℕ → (ℕ → Bool) → Codec Bool
+truth_in field set = via truth_of truth_byte (u8_in field (λ n. nat_lt n 2 && set n))
+
 abbrev pub mode_of : ℕ → Mode
 mode_of zero = Shared
 mode_of (suc n) = Exclusive

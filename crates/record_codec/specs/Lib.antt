@@ -1,4 +1,10 @@
 pub mod Codec
 pub mod Fields
 pub mod Reads
+pub mod Open
 pub mod GLock
+pub mod Share
+pub mod Lease
+pub mod Register
+pub mod Range
+pub mod Mail

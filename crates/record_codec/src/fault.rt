@@ -1,6 +1,7 @@
 ghost use Rattle.std.specs.Prelude.{◌≡◌};
 ghost use Rattle.record_codec.specs.declared.fault.Unpack.TheVariants.{OutOfMemory};
 
+use sid_core::OutOfMemory as NoMemory;
 use std::alloc::{AllocError, AllocFailed};
 
 /// Why bytes could not be unpacked: the first fault of the bytes, or want of memory.
@@ -32,6 +33,14 @@ impl<T: Drop> From<AllocFailed<T>> for Unpack {
     ghost from_gives = { λ _ e. e ≡ OutOfMemory };
 
     fn from(_e: AllocFailed<T>) -> Unpack {
+        Unpack::OutOfMemory
+    }
+}
+
+impl From<NoMemory> for Unpack {
+    ghost from_gives = { λ _ e. e ≡ OutOfMemory };
+
+    fn from(_e: NoMemory) -> Unpack {
         Unpack::OutOfMemory
     }
 }

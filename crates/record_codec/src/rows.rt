@@ -1,4 +1,5 @@
 ghost use Rattle.std.specs.Prelude.{◌≡◌, ◌++◌, ◌<◌, ◌^◌, length, OnOk};
+ghost use Rattle.std.specs.List.{AllByRecursion};
 ghost use Rattle.record_codec.specs.Codec.{Codec, times_read};
 ghost use Rattle.record_codec.specs.Fields.{list};
 ghost use Rattle.record_codec.specs.Reads.{Gives};
@@ -17,11 +18,12 @@ pub(crate) trait Row<T: Copy> {
         ensures { Gives (λ x. (x.0, x.1.now)) result (codec.read bytes.now) };
 
     fn put(out: &mut Vec<u8>, item: &T) -> Result<(), AllocError>
+        requires { codec.valid item.now }
         ensures { OnOk result (out.new.items ≡ out.old.items ++ codec.spell item.now) };
 }
 
-fn rows_at<T: Copy, R: Row<T>>(alloc: Global, count: u32, bytes: &[u8]) -> Result<(Vec<T>, &[u8]), Unpack>
-    ensures { Gives (λ x. (x.0.items, x.1.now)) result (times_read R.codec count bytes.now) }
+pub(crate) fn rows_at<T: Copy, R: Row<T>>(alloc: Global, count: u32, bytes: &[u8]) -> Result<(Vec<T>, &[u8]), Unpack>
+    ensures { Gives (λ x. (x.0.items, x.1.now)) result (times_read R.codec.read count bytes.now) }
 {
     // No item has fewer than 8 bytes, so a false count reserves no more than the bytes can hold.
     let mut rows = Vec::with_capacity(alloc, (count as usize).min(bytes.len() / 8))?;
@@ -43,7 +45,8 @@ pub(crate) fn list_at<T: Copy, R: Row<T>>(alloc: Global, bytes: &[u8]) -> Result
 }
 
 pub(crate) fn put_list<T: Copy, R: Row<T>>(out: &mut Vec<u8>, rows: &[T]) -> Result<(), AllocError>
-    requires { length rows.now < 2 ^ 32 }
+    requires count { length rows.now < 2 ^ 32 }
+    requires valid { AllByRecursion R.codec.valid rows.now }
     ensures { OnOk result (out.new.items ≡ out.old.items ++ (list 0 R.codec).spell rows.now) }
 {
     put_u32(out, rows.len() as u32)?;

@@ -1,8 +1,8 @@
-ghost use Rattle.std.specs.Prelude.{◌≡◌, ◌++◌, OnOk};
+ghost use Rattle.std.specs.Prelude.{◌≡◌, ◌++◌, ◌<◌, ◌^◌, length, OnOk};
 ghost use Rattle.byteorder.specs.Endian.{little_bytes, little_number};
-ghost use Rattle.record_codec.specs.Fields.{header, open_id, truth as truth_codec, mode as mode_codec, sid as sid_codec};
+ghost use Rattle.record_codec.specs.Fields.{header, open_id, text as text_codec, state, truth as truth_codec, mode as mode_codec, sid as sid_codec};
 
-use sid_core::{Mode, OpenId, Sid};
+use sid_core::{LeaseState, Mode, OpenId, Sid, Text};
 use std::alloc::AllocError;
 
 pub(crate) fn put_u8(out: &mut Vec<u8>, number: u8) -> Result<(), AllocError>
@@ -63,4 +63,19 @@ pub(crate) fn put_open_id(out: &mut Vec<u8>, id: OpenId) -> Result<(), AllocErro
 {
     put_u32(out, id.pid)?;
     put_u32(out, id.call)
+}
+
+pub(crate) fn put_state(out: &mut Vec<u8>, held: LeaseState) -> Result<(), AllocError>
+    ensures { OnOk result (out.new.items ≡ out.old.items ++ (state 0).spell held) }
+{
+    put_u8(out, held.0)
+}
+
+pub(crate) fn put_text(out: &mut Vec<u8>, text: &Text) -> Result<(), AllocError>
+    requires { length text.now < 2 ^ 16 }
+    ensures { OnOk result (out.new.items ≡ out.old.items ++ (text_codec 0).spell text.now) }
+{
+    let bytes = text.bytes();
+    put_u16(out, bytes.len() as u16)?;
+    out.extend_from_slice(bytes)
 }

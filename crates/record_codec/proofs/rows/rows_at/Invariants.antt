@@ -4,4 +4,4 @@ use Rattle.record_codec.proofs.Loop.{with_front}
 use Rattle.record_codec.proofs.rows.rows_at.Given as goal
 
 abbrev pub invariant-loop : goal.invariant-loop
-invariant-loop g l = with_front l.rows.items (times_read g.R.Row.codec (l.count - l.counter) l.rest) ≡ times_read g.R.Row.codec l.count l.bytes
+invariant-loop g l = with_front l.rows.items (times_read g.R.Row.codec.read (l.count - l.counter) l.rest) ≡ times_read g.R.Row.codec.read l.count l.bytes
