@@ -1,15 +1,14 @@
 -- Each codec reads exactly what it spells, and fails with the first fault.
-use Rattle.std.proofs.Common.{◌≡◌, ℕ, zero, suc, ◌+◌, ◌*◌, ◌^◌, ◌<◌, ◌≤◌, Bool, true, false, cond, ltb, eqb, ◌⊎◌, inl, inr, List, [], ◌∷◌, ◌++◌, length, take, drop, Result, Ok, Err, refl, sym, ap, subst, ◌∙◌, append_assoc, arith}
+use Rattle.std.proofs.Common.{◌≡◌, ℕ, zero, suc, ◌^◌, ◌<◌, ◌≤◌, Bool, true, false, cond, ltb, ◌⊎◌, inl, inr, List, [], ◌∷◌, ◌++◌, length, take, drop, Result, Ok, Err, refl, sym, ap, subst, ◌∙◌, append_assoc, arith}
 use Rattle.std.specs.Prelude.{IsTrue}
 use Rattle.std.specs.List.{flat_map, AllByRecursion}
 use Rattle.std.proofs.lemmas.Bool.{ltb-false, ltb-true, le-ltb, lt-ltb}
 use Rattle.std.proofs.lemmas.List.{take_at, drop_at, take-append-drop, length-append, length-take}
-use Rattle.std.proofs.lemmas.List.Concat.{flat_map-cons}
 use Rattle.byteorder.specs.Endian.{little_bytes, little_number}
 use Rattle.byteorder.specs.Numbers.{little_number-reads_back, little_from-lt, length-bytes_low_first}
 use Rattle.record_codec.specs.declared.fault.Unpack.{Unpack}
 use Rattle.record_codec.specs.declared.fault.Unpack.TheVariants.{Short}
-use Rattle.record_codec.specs.Codec.{Codec, ◌>>=◌, Follows, raw, number, read_run, run, ◌⨾◌, left_out, via, times_fault, times_read, times}
+use Rattle.record_codec.specs.Codec.{Codec, ◌>>=◌, raw, number, read_run, run, ◌⨾◌, left_out, via, times_fault, times_read, times}
 use Rattle.record_codec.proofs.Bytes.{IsBytes, IsBytes-after, bytes-of-number}
 
 pub record IsExact {A : Type 0} (c : Codec A) : Type 0 where
@@ -79,27 +78,27 @@ raw_again width n rest lt =
 pub number_exact : (width : ℕ) (set : ℕ → Bool) (outside : Unpack) → IsExact (number width set outside)
 number_exact width set outside = record {
   takes = λ bytes x fits e.
-    let a = bind_ok (raw width bytes) (λ n. cond (set n.0) (Ok n) (Err outside)) x e in
-    let r = raw_ok width bytes a.0 a.1 in
-    let p = passed (set a.0.0) outside a.0 x a.2 in
-    let whole : bytes ≡ little_bytes width (little_number width bytes) ++ drop width bytes = rw (bytes-of-number width bytes fits r.0) (sym (take-append-drop width bytes)) in
-    let lt : little_number width bytes < 256 ^ width = little_from-lt 0 width bytes fits in
-    let out : (n : ℕ × List ℕ) → n ≡ (little_number width bytes, drop width bytes) → set n.0 ≡ true → ((n.0 < 256 ^ width) × IsTrue (set n.0)) × (bytes ≡ little_bytes width n.0 ++ n.1) =
+      let a = bind_ok (raw width bytes) (λ n. cond (set n.0) (Ok n) (Err outside)) x e in
+      let r = raw_ok width bytes a.0 a.1 in
+      let p = passed (set a.0.0) outside a.0 x a.2 in
+      let whole : bytes ≡ little_bytes width (little_number width bytes) ++ drop width bytes = rw (bytes-of-number width bytes fits r.0) (sym (take-append-drop width bytes)) in
+      let lt : little_number width bytes < 256 ^ width = little_from-lt 0 width bytes fits in
+      let out : (n : ℕ × List ℕ) → n ≡ (little_number width bytes, drop width bytes) → set n.0 ≡ true → ((n.0 < 256 ^ width) × IsTrue (set n.0)) × (bytes ≡ little_bytes width n.0 ++ n.1) =
       λ n eq st. ((rw eq lt, st), rw eq whole) in
-    subst (λ (n : ℕ × List ℕ). ((n.0 < 256 ^ width) × IsTrue (set n.0)) × (bytes ≡ little_bytes width n.0 ++ n.1)) p.1 (out a.0 r.1 p.0);
+      subst (λ (n : ℕ × List ℕ). ((n.0 < 256 ^ width) × IsTrue (set n.0)) × (bytes ≡ little_bytes width n.0 ++ n.1)) p.1 (out a.0 r.1 p.0);
   again = λ n rest v. rw (raw_again width n rest v.0, v.1) refl;
   fails = λ bytes d fits e.
-    elim (bind_err (raw width bytes) (λ n. cond (set n.0) (Ok n) (Err outside)) d e) [
-      | inl h ↦ inl (raw_err width bytes d h)
-      | inr h ↦
-        let r = raw_ok width bytes h.0 h.1 in
-        let p = not_passed (set h.0.0) outside d h.0 h.2 in
-        inr (r.0, ap (λ (n : ℕ × List ℕ). set n.0) (sym r.1) ∙ p.0, p.1)
-    ];
+      elim (bind_err (raw width bytes) (λ n. cond (set n.0) (Ok n) (Err outside)) d e) [
+        | inl h ↦ inl (raw_err width bytes d h)
+        | inr h ↦
+            let r = raw_ok width bytes h.0 h.1 in
+            let p = not_passed (set h.0.0) outside d h.0 h.2 in
+            inr (r.0, ap (λ (n : ℕ × List ℕ). set n.0) (sym r.1) ∙ p.0, p.1)
+      ];
   faulty = λ bytes d h. elim h [
-      | inl s ↦ rw (raw_short width bytes s.0, s.1) refl
-      | inr s ↦ rw (raw_long width bytes s.0, s.1, s.2) refl
-    ];
+    | inl s ↦ rw (raw_short width bytes s.0, s.1) refl
+    | inr s ↦ rw (raw_long width bytes s.0, s.1, s.2) refl
+  ];
 }
 
 -- ---- bytes
@@ -110,8 +109,8 @@ run_ok len set outside bytes x e = go (ltb (length bytes) len) refl e where
   go : (b : Bool) → ltb (length bytes) len ≡ b → cond b (Err Short) (cond (set (take len bytes)) (Ok (take len bytes, drop len bytes)) (Err outside)) ≡ done x → (len ≤ length bytes) × (set (take len bytes) ≡ true) × (x ≡ (take len bytes, drop len bytes))
   go true t h = absurd cc
   go false t h =
-    let p = passed (set (take len bytes)) outside (take len bytes, drop len bytes) x h in
-    (ltb-false _ _ t, p.0, sym p.1)
+      let p = passed (set (take len bytes)) outside (take len bytes, drop len bytes) x h in
+      (ltb-false _ _ t, p.0, sym p.1)
 
 run_err : (len : ℕ) (set : List ℕ → Bool) (outside : Unpack) (bytes : List ℕ) (d : Unpack) → read_run len set outside bytes ≡ Err d → ((length bytes < len) × (d ≡ Short)) ⊎ ((len ≤ length bytes) × (set (take len bytes) ≡ false) × (d ≡ outside))
 unfolding read_run
@@ -119,8 +118,8 @@ run_err len set outside bytes d e = go (ltb (length bytes) len) refl e where
   go : (b : Bool) → ltb (length bytes) len ≡ b → cond b (Err Short) (cond (set (take len bytes)) (Ok (take len bytes, drop len bytes)) (Err outside)) ≡ failed {A = List ℕ × List ℕ} d → ((length bytes < len) × (d ≡ Short)) ⊎ ((len ≤ length bytes) × (set (take len bytes) ≡ false) × (d ≡ outside))
   go true t h = inl (ltb-true _ _ t, cc)
   go false t h =
-    let p = not_passed (set (take len bytes)) outside d (take len bytes, drop len bytes) h in
-    inr (ltb-false _ _ t, p.0, p.1)
+      let p = not_passed (set (take len bytes)) outside d (take len bytes, drop len bytes) h in
+      inr (ltb-false _ _ t, p.0, p.1)
 
 run_short : (len : ℕ) (set : List ℕ → Bool) (outside : Unpack) (bytes : List ℕ) → length bytes < len → read_run len set outside bytes ≡ Err Short
 unfolding read_run
@@ -133,18 +132,18 @@ run_long len set outside bytes b le e = rw (le-ltb (length bytes) len le, e) ref
 pub run_exact : (len : ℕ) (set : List ℕ → Bool) (outside : Unpack) → IsExact (run len set outside)
 run_exact len set outside = record {
   takes = λ bytes x fits e.
-    let r = run_ok len set outside bytes x e in
-    let long : length (take len bytes) ≡ len = omega (arith, length-take len bytes, r.0) in
-    subst (λ (y : List ℕ × List ℕ). ((length y.0 ≡ len) × IsTrue (set y.0)) × (bytes ≡ y.0 ++ y.1)) (sym r.2) ((long, r.1), sym (take-append-drop len bytes));
+      let r = run_ok len set outside bytes x e in
+      let long : length (take len bytes) ≡ len = omega (arith, length-take len bytes, r.0) in
+      subst (λ (y : List ℕ × List ℕ). ((length y.0 ≡ len) × IsTrue (set y.0)) × (bytes ≡ y.0 ++ y.1)) (sym r.2) ((long, r.1), sym (take-append-drop len bytes));
   again = λ text rest v.
-    let long : len ≤ length (text ++ rest) = omega (arith, length-append text rest, v.0) in
-    let front : take len (text ++ rest) ≡ text = take_at text rest len v.0 in
-    run_long len set outside (text ++ rest) true long (ap set front ∙ v.1) ∙ rw (front, drop_at text rest len v.0) refl;
+      let long : len ≤ length (text ++ rest) = omega (arith, length-append text rest, v.0) in
+      let front : take len (text ++ rest) ≡ text = take_at text rest len v.0 in
+      run_long len set outside (text ++ rest) true long (ap set front ∙ v.1) ∙ rw (front, drop_at text rest len v.0) refl;
   fails = λ bytes d fits e. run_err len set outside bytes d e;
   faulty = λ bytes d h. elim h [
-      | inl s ↦ run_short len set outside bytes s.0 ∙ ap (λ (x : Unpack). failed x) (sym s.1)
-      | inr s ↦ run_long len set outside bytes false s.0 s.1 ∙ ap (λ (x : Unpack). failed x) (sym s.2)
-    ];
+    | inl s ↦ run_short len set outside bytes s.0 ∙ ap (λ (x : Unpack). failed x) (sym s.1)
+    | inr s ↦ run_long len set outside bytes false s.0 s.1 ∙ ap (λ (x : Unpack). failed x) (sym s.2)
+  ];
 }
 
 -- ---- one after the other
@@ -152,37 +151,37 @@ run_exact len set outside = record {
 pub seq_exact : {A B : Type 0} (c : Codec A) (d : A → Codec B) → IsExact c → ((x : A) → IsExact (d x)) → IsExact (c ⨾ d)
 seq_exact {A = A} {B = B} c d first then_ = record {
   takes = λ bytes p fits e.
-    let a = bind_ok (c.read bytes) (λ x. (d x.0).read x.1 >>= λ y. Ok ((x.0, y.0), y.1)) p e in
-    let b = bind_ok ((d a.0.0).read a.0.1) (λ y. Ok ((a.0.0, y.0), y.1)) p a.2 in
-    let s = first.takes bytes a.0 fits a.1 in
-    let t = (then_ a.0.0).takes a.0.1 b.0 (IsBytes-after bytes (c.spell a.0.0) a.0.1 fits s.1) b.1 in
-    let made : (A × B) × List ℕ = ((a.0.0, b.0.0), b.0.1) in
-    let whole : bytes ≡ (c.spell a.0.0 ++ (d a.0.0).spell b.0.0) ++ b.0.1 = s.1 ∙ ap (λ (r : List ℕ). c.spell a.0.0 ++ r) t.1 ∙ sym (append_assoc (c.spell a.0.0) ((d a.0.0).spell b.0.0) b.0.1) in
-    subst (λ (q : (A × B) × List ℕ). (c.valid q.0.0 × (d q.0.0).valid q.0.1) × (bytes ≡ (c.spell q.0.0 ++ (d q.0.0).spell q.0.1) ++ q.1)) (ok_is made p b.2) ((s.0, t.0), whole);
+      let a = bind_ok (c.read bytes) (λ x. (d x.0).read x.1 >>= λ y. Ok ((x.0, y.0), y.1)) p e in
+      let b = bind_ok ((d a.0.0).read a.0.1) (λ y. Ok ((a.0.0, y.0), y.1)) p a.2 in
+      let s = first.takes bytes a.0 fits a.1 in
+      let t = (then_ a.0.0).takes a.0.1 b.0 (IsBytes-after bytes (c.spell a.0.0) a.0.1 fits s.1) b.1 in
+      let made : (A × B) × List ℕ = ((a.0.0, b.0.0), b.0.1) in
+      let whole : bytes ≡ (c.spell a.0.0 ++ (d a.0.0).spell b.0.0) ++ b.0.1 = s.1 ∙ ap (λ (r : List ℕ). c.spell a.0.0 ++ r) t.1 ∙ sym (append_assoc (c.spell a.0.0) ((d a.0.0).spell b.0.0) b.0.1) in
+      subst (λ (q : (A × B) × List ℕ). (c.valid q.0.0 × (d q.0.0).valid q.0.1) × (bytes ≡ (c.spell q.0.0 ++ (d q.0.0).spell q.0.1) ++ q.1)) (ok_is made p b.2) ((s.0, t.0), whole);
   again = λ p rest v.
-    rw (append_assoc (c.spell p.0) ((d p.0).spell p.1) rest, first.again p.0 ((d p.0).spell p.1 ++ rest) v.0, (then_ p.0).again p.1 rest v.1) refl;
+      rw (append_assoc (c.spell p.0) ((d p.0).spell p.1) rest, first.again p.0 ((d p.0).spell p.1 ++ rest) v.0, (then_ p.0).again p.1 rest v.1) refl;
   fails = λ bytes e fits h.
-    elim (bind_err (c.read bytes) (λ x. (d x.0).read x.1 >>= λ y. Ok ((x.0, y.0), y.1)) e h) [
-      | inl f ↦ inl (first.fails bytes e fits f)
-      | inr a ↦
-        let s = first.takes bytes a.0 fits a.1 in
-        let after = IsBytes-after bytes (c.spell a.0.0) a.0.1 fits s.1 in
-        elim (bind_err ((d a.0.0).read a.0.1) (λ y. Ok ((a.0.0, y.0), y.1)) e a.2) [
-          | inl f ↦ inr (a.0.0, a.0.1, s.0, s.1, (then_ a.0.0).fails a.0.1 e after f)
-          | inr b ↦ absurd cc
-        ]
-    ];
+      elim (bind_err (c.read bytes) (λ x. (d x.0).read x.1 >>= λ y. Ok ((x.0, y.0), y.1)) e h) [
+        | inl f ↦ inl (first.fails bytes e fits f)
+        | inr a ↦
+            let s = first.takes bytes a.0 fits a.1 in
+            let after = IsBytes-after bytes (c.spell a.0.0) a.0.1 fits s.1 in
+            elim (bind_err ((d a.0.0).read a.0.1) (λ y. Ok ((a.0.0, y.0), y.1)) e a.2) [
+              | inl f ↦ inr (a.0.0, a.0.1, s.0, s.1, (then_ a.0.0).fails a.0.1 e after f)
+              | inr b ↦ absurd cc
+            ]
+      ];
   faulty = λ bytes e h. elim h [
-      | inl f ↦ rw (first.faulty bytes e f) refl
-      | inr a ↦ rw (a.3, first.again a.0 a.1 a.2, (then_ a.0).faulty a.1 e a.4) refl
-    ];
+    | inl f ↦ rw (first.faulty bytes e f) refl
+    | inr a ↦ rw (a.3, first.again a.0 a.1 a.2, (then_ a.0).faulty a.1 e a.4) refl
+  ];
 }
 
 pub left_out_exact : {A : Type 0} (x : A) → IsExact (left_out x)
 left_out_exact {A = A} x = record {
   takes = λ bytes p fits e.
-    let made : A × List ℕ = (x, bytes) in
-    subst (λ (q : A × List ℕ). (q.0 ≡ x) × (bytes ≡ q.1)) (ok_is made p e) (refl, refl);
+      let made : A × List ℕ = (x, bytes) in
+      subst (λ (q : A × List ℕ). (q.0 ≡ x) × (bytes ≡ q.1)) (ok_is made p e) (refl, refl);
   again = λ y rest v. ap (λ (z : A). Ok (z, rest)) (sym v);
   fails = λ bytes e fits h. absurd cc;
   faulty = λ bytes e h. absurd h;
@@ -191,18 +190,18 @@ left_out_exact {A = A} x = record {
 pub via_exact : {A B : Type 0} (make : A → B) (parts : B → A) (c : Codec A) → ((y : B) → make (parts y) ≡ y) → ((x : A) → c.valid x → parts (make x) ≡ x) → IsExact c → IsExact (via make parts c)
 via_exact {A = A} {B = B} make parts c made taken exact = record {
   takes = λ bytes y fits e.
-    let a = bind_ok (c.read bytes) (λ x. Ok (make x.0, x.1)) y e in
-    let s = exact.takes bytes a.0 fits a.1 in
-    let back : parts (make a.0.0) ≡ a.0.0 = taken a.0.0 s.0 in
-    let new : B × List ℕ = (make a.0.0, a.0.1) in
-    subst (λ (q : B × List ℕ). c.valid (parts q.0) × (bytes ≡ c.spell (parts q.0) ++ q.1)) (ok_is new y a.2)
+      let a = bind_ok (c.read bytes) (λ x. Ok (make x.0, x.1)) y e in
+      let s = exact.takes bytes a.0 fits a.1 in
+      let back : parts (make a.0.0) ≡ a.0.0 = taken a.0.0 s.0 in
+      let new : B × List ℕ = (make a.0.0, a.0.1) in
+      subst (λ (q : B × List ℕ). c.valid (parts q.0) × (bytes ≡ c.spell (parts q.0) ++ q.1)) (ok_is new y a.2)
       (subst (λ (x : A). c.valid x × (bytes ≡ c.spell x ++ a.0.1)) (sym back) s);
   again = λ y rest v. rw (exact.again (parts y) rest v, made y) refl;
   fails = λ bytes e fits h.
-    elim (bind_err (c.read bytes) (λ x. Ok (make x.0, x.1)) e h) [
-      | inl f ↦ exact.fails bytes e fits f
-      | inr a ↦ absurd cc
-    ];
+      elim (bind_err (c.read bytes) (λ x. Ok (make x.0, x.1)) e h) [
+        | inl f ↦ exact.fails bytes e fits f
+        | inr a ↦ absurd cc
+      ];
   faulty = λ bytes e h. rw (exact.faulty bytes e h) refl;
 }
 
@@ -221,7 +220,7 @@ times_takes {A = A} item exact (suc n) bytes x fits e =
     let made : List A × List ℕ = (a.0.0 ∷ b.0.0, b.0.1) in
     let whole : bytes ≡ (item.spell a.0.0 ++ flat_map item.spell b.0.0) ++ b.0.1 = s.1 ∙ ap (λ (r : List ℕ). item.spell a.0.0 ++ r) t.1 ∙ sym (append_assoc (item.spell a.0.0) (flat_map item.spell b.0.0) b.0.1) in
     subst (λ (y : List A × List ℕ). ((length y.0 ≡ suc n) × AllByRecursion item.valid y.0) × (bytes ≡ flat_map item.spell y.0 ++ y.1)) (ok_is made x b.2)
-      ((ap suc t.0.0, (s.0, t.0.1)), whole)
+    ((ap suc t.0.0, (s.0, t.0.1)), whole)
 
 times_again : {A : Type 0} (item : Codec A) → IsExact item → (n : ℕ) (xs : List A) (rest : List ℕ) → (length xs ≡ n) × AllByRecursion item.valid xs → times_read item.read n (flat_map item.spell xs ++ rest) ≡ Ok (xs, rest)
 unfolding times_read
@@ -239,21 +238,21 @@ times_fails item exact (suc n) bytes e fits h =
     elim (bind_err (item.read bytes) (λ y. times_read item.read n y.1 >>= λ ys. Ok (y.0 ∷ ys.0, ys.1)) e h) [
       | inl f ↦ inl (exact.fails bytes e fits f)
       | inr a ↦
-        let s = exact.takes bytes a.0 fits a.1 in
-        let after = IsBytes-after bytes (item.spell a.0.0) a.0.1 fits s.1 in
-        elim (bind_err (times_read item.read n a.0.1) (λ ys. Ok (a.0.0 ∷ ys.0, ys.1)) e a.2) [
-          | inl f ↦ inr (a.0.0, a.0.1, s.0, s.1, times_fails item exact n a.0.1 e after f)
-          | inr b ↦ absurd cc
-        ]
+          let s = exact.takes bytes a.0 fits a.1 in
+          let after = IsBytes-after bytes (item.spell a.0.0) a.0.1 fits s.1 in
+          elim (bind_err (times_read item.read n a.0.1) (λ ys. Ok (a.0.0 ∷ ys.0, ys.1)) e a.2) [
+            | inl f ↦ inr (a.0.0, a.0.1, s.0, s.1, times_fails item exact n a.0.1 e after f)
+            | inr b ↦ absurd cc
+          ]
     ]
 
 times_faulty : {A : Type 0} (item : Codec A) → IsExact item → (n : ℕ) (bytes : List ℕ) (e : Unpack) → times_fault item n bytes e → times_read item.read n bytes ≡ Err e
 unfolding times_read
 times_faulty item exact zero bytes e h = absurd h
 times_faulty item exact (suc n) bytes e h = elim h [
-      | inl f ↦ rw (exact.faulty bytes e f) refl
-      | inr a ↦ rw (a.3, exact.again a.0 a.1 a.2, times_faulty item exact n a.1 e a.4) refl
-    ]
+  | inl f ↦ rw (exact.faulty bytes e f) refl
+  | inr a ↦ rw (a.3, exact.again a.0 a.1 a.2, times_faulty item exact n a.1 e a.4) refl
+]
 
 pub times_exact : {A : Type 0} (item : Codec A) → IsExact item → (n : ℕ) → IsExact (times item n)
 times_exact item exact n = record {

@@ -1,8 +1,6 @@
 -- The record of a global lock is exact.
 use Rattle.std.proofs.Common.{refl, lit<}
 use Rattle.std.specs.Prelude.{codes}
-use Rattle.record_codec.specs.Codec.{◌⨾◌}
-use Rattle.record_codec.specs.Fields.{headed, u32, sid, mode, truth, list}
 use Rattle.record_codec.specs.GLock.{hold, upgrade_watch, glock}
 use Rattle.record_codec.proofs.Exact.{IsExact, seq_exact, via_exact}
 use Rattle.record_codec.proofs.Fields.{headed_exact, u32_exact, sid_exact, mode_exact, truth_exact, list_exact}

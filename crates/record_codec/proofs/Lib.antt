@@ -4,6 +4,7 @@ pub mod Whole
 pub mod Fields
 pub mod GLockExact
 pub mod Loop
+pub mod Append
 pub mod OpenExact
 pub mod ShareExact
 pub mod LeaseExact

@@ -8,8 +8,7 @@ use Rattle.sid_core.specs.declared.ids.Spot.TheVariants.{OpenOf, RangesOf, LockO
 use Rattle.sid_core.specs.declared.entry.Letter.{Letter}
 use Rattle.sid_core.specs.declared.entry.Letter.TheVariants.{Wake, Break}
 use Rattle.sid_core.specs.Values.{is_state}
-use Rattle.record_codec.specs.Codec.{◌⨾◌}
-use Rattle.record_codec.specs.Fields.{within, zero_unless, lowered, u8_in, u32_in, u64_in, truth, truth_byte, truth_in, state_in}
+use Rattle.record_codec.specs.Fields.{within, zero_unless, lowered, truth_byte}
 use Rattle.record_codec.specs.Mail.{spot_of, spot_kind, spot_number, number_of_spot, spot, token, LetterParts, letter_of, letter_parts, letter_fields, letter, mail}
 use Rattle.record_codec.proofs.Exact.{IsExact, seq_exact, via_exact}
 use Rattle.record_codec.proofs.Fields.{headed_exact, both, u8_in_exact, u32_exact, u32_in_exact, u64_in_exact, truth_exact, truth_in_exact, state_in_exact, list_exact}

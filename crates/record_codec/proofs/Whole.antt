@@ -1,11 +1,11 @@
 -- The clauses of unpacking, for every codec that is exact.
-use Rattle.std.proofs.Common.{◌≡◌, ℕ, ◌<◌, Bool, true, false, cond, eqb, ◌⊎◌, inl, inr, List, [], ◌++◌, length, Result, Ok, Err, refl, sym, ap, subst, ◌∙◌, arith}
-use Rattle.std.specs.Prelude.{IfOk, IfErr, ◌==◌}
+use Rattle.std.proofs.Common.{◌≡◌, ℕ, false, cond, eqb, ◌⊎◌, inl, inr, List, [], ◌++◌, length, Result, Ok, Err, refl, sym, ap, subst, ◌∙◌, arith}
+use Rattle.std.specs.Prelude.{IfOk, IfErr}
 use Rattle.std.proofs.lemmas.Bool.{eqb-true, eqb-false, ne_eqb}
 use Rattle.std.proofs.lemmas.List.{append-nil, nil_from_length}
 use Rattle.record_codec.specs.declared.fault.Unpack.{Unpack}
 use Rattle.record_codec.specs.declared.fault.Unpack.TheVariants.{Magic, Version, Short, Trailing, BadField, OutOfMemory}
-use Rattle.record_codec.specs.Codec.{Codec, ◌>>=◌, Follows, Spells, FirstFault, read_all}
+use Rattle.record_codec.specs.Codec.{Codec, Spells, FirstFault, read_all}
 use Rattle.record_codec.specs.Reads.{Fails, Gives, Explains, IsOkOrMemory, IsErrOrMemory}
 use Rattle.record_codec.proofs.Bytes.{IsBytes}
 use Rattle.record_codec.proofs.Exact.{IsExact, bind_ok, bind_err, passed, not_passed}
@@ -32,19 +32,19 @@ all_fails {A = A} c exact bytes e fits h =
     elim (bind_err (c.read bytes) (λ y. cond (eqb (length y.1) 0) (Ok y.0) (Err Trailing)) e h) [
       | inl f ↦ inl (exact.fails bytes e fits f)
       | inr a ↦
-        let s = exact.takes bytes a.0 fits a.1 in
-        let p = not_passed (eqb (length a.0.1) 0) Trailing e a.0.0 a.2 in
-        inr (a.0.0, a.0.1, s.0, s.1, (omega (arith, eqb-false _ _ p.0), p.1))
+          let s = exact.takes bytes a.0 fits a.1 in
+          let p = not_passed (eqb (length a.0.1) 0) Trailing e a.0.0 a.2 in
+          inr (a.0.0, a.0.1, s.0, s.1, (omega (arith, eqb-false _ _ p.0), p.1))
     ]
 
 pub all_faulty : {A : Type 0} (c : Codec A) → IsExact c → (bytes : List ℕ) (e : Unpack) → FirstFault c bytes e → read_all c bytes ≡ Err e
 unfolding read_all
 all_faulty c exact bytes e h = elim h [
-      | inl f ↦ rw (exact.faulty bytes e f) refl
-      | inr a ↦
-        let some : eqb (length a.1) 0 ≡ false = ne_eqb (length a.1) 0 (λ z. omega (arith, a.4.0, z)) in
-        rw (a.3, exact.again a.0 a.1 a.2, some, a.4.1) refl
-    ]
+  | inl f ↦ rw (exact.faulty bytes e f) refl
+  | inr a ↦
+      let some : eqb (length a.1) 0 ≡ false = ne_eqb (length a.1) 0 (λ z. omega (arith, a.4.0, z)) in
+      rw (a.3, exact.again a.0 a.1 a.2, some, a.4.1) refl
+]
 
 -- ---- the four clauses
 
@@ -65,16 +65,16 @@ is_spelled c exact bytes (Ok y) given x s =
     let e = all_again c exact bytes x s in cc
 is_spelled c exact bytes (Err d) given x s =
     let e = all_again c exact bytes x s in
-    elim (fails_with d (read_all c bytes) given) [ | inl m ↦ m | inr f ↦ absurd cc ]
+    elim (fails_with d (read_all c bytes) given) [ inl m ↦ m | inr f ↦ absurd cc ]
 
 pub is_refused : {A : Type 0} (c : Codec A) → IsExact c → (bytes : List ℕ) (r : Result A Unpack) → IsBytes bytes → Gives (λ x. x) r (read_all c bytes) → IfErr r (Explains c bytes)
 is_refused c exact bytes (Ok y) fits given = tt
 is_refused c exact bytes (Err d) fits given =
-    elim (fails_with d (read_all c bytes) given) [ | inl m ↦ inl m | inr f ↦ inr (all_fails c exact bytes d fits f) ]
+    elim (fails_with d (read_all c bytes) given) [ inl m ↦ inl m | inr f ↦ inr (all_fails c exact bytes d fits f) ]
 
 pub is_faulty : {A : Type 0} (c : Codec A) → IsExact c → (bytes : List ℕ) (r : Result A Unpack) → Gives (λ x. x) r (read_all c bytes) → (e : Unpack) → FirstFault c bytes e → IsErrOrMemory e r
 is_faulty c exact bytes (Ok y) given e h =
     let f = all_faulty c exact bytes e h in absurd cc
 is_faulty c exact bytes (Err d) given e h =
     let f = all_faulty c exact bytes e h in
-    elim (fails_with d (read_all c bytes) given) [ | inl m ↦ inr m | inr g ↦ inl cc ]
+    elim (fails_with d (read_all c bytes) given) [ inl m ↦ inr m | inr g ↦ inl cc ]

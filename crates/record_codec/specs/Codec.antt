@@ -1,5 +1,5 @@
 -- Codecs: how values are spelled in bytes, and which fault bytes have that spell none.
-use Rattle.std.specs.Prelude.{◌≡◌, ℕ, zero, suc, ◌+◌, ◌^◌, ◌<◌, ◌≤◌, nat_lt, Bool, true, false, ◌==◌, IsTrue, ◌⊎◌, List, [], ◌∷◌, ◌++◌, length, take, drop, Result, Ok, Err, if◌then◌else◌}
+use Rattle.std.specs.Prelude.{◌≡◌, ℕ, zero, suc, ◌^◌, ◌<◌, ◌≤◌, nat_lt, Bool, false, ◌==◌, IsTrue, ◌⊎◌, List, [], ◌∷◌, ◌++◌, length, take, drop, Result, Ok, Err, if◌then◌else◌}
 use Rattle.std.specs.List.{flat_map, AllByRecursion}
 use Rattle.byteorder.specs.Endian.{little_bytes, little_number}
 use Rattle.record_codec.specs.declared.fault.Unpack.{Unpack}
@@ -37,7 +37,7 @@ number width set outside = record {
   spell = λ n. little_bytes width n;
   valid = λ n. (n < 256 ^ width) × IsTrue (set n);
   fault = λ bytes e. ((length bytes < width) × (e ≡ Short))
-    ⊎ ((width ≤ length bytes) × (set (little_number width bytes) ≡ false) × (e ≡ outside));
+      ⊎ ((width ≤ length bytes) × (set (little_number width bytes) ≡ false) × (e ≡ outside));
   read = λ bytes. raw width bytes >>= λ n. if set n.0 then Ok n else Err outside;
 }
 
@@ -53,7 +53,7 @@ run len set outside = record {
   spell = λ text. text;
   valid = λ text. (length text ≡ len) × IsTrue (set text);
   fault = λ bytes e. ((length bytes < len) × (e ≡ Short))
-    ⊎ ((len ≤ length bytes) × (set (take len bytes) ≡ false) × (e ≡ outside));
+      ⊎ ((len ≤ length bytes) × (set (take len bytes) ≡ false) × (e ≡ outside));
   read = read_run len set outside;
 }
 

@@ -1,7 +1,5 @@
 -- The record of a global lock.
-use Rattle.std.specs.Prelude.{ℕ, Bool, List, codes}
-use Rattle.sid_core.specs.declared.ids.Sid.{Sid}
-use Rattle.sid_core.specs.declared.call.Mode.{Mode}
+use Rattle.std.specs.Prelude.{codes}
 use Rattle.record_codec.specs.declared.watch.WatchRec.{WatchRec}
 use Rattle.record_codec.specs.declared.glock.Hold.{Hold}
 use Rattle.record_codec.specs.declared.glock.GLockRec.{GLockRec}

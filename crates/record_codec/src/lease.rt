@@ -5,7 +5,9 @@ ghost use Rattle.record_codec.specs.Lease.{lease, lease_ref, needed as needed_se
 ghost use Rattle.record_codec.specs.Reads.{Gives};
 
 use crate::fault::Unpack;
-use crate::reading::{header_at, lowered_at, needed_at, open_id_at, sid_at, state_at, truth_at, u32_at};
+use crate::reading::{
+    header_at, lowered_at, needed_at, open_id_at, sid_at, state_at, truth_at, u32_at,
+};
 use crate::record::Packed;
 use crate::rows::{Row, list_at, put_list};
 use crate::writing::{put_header, put_open_id, put_sid, put_state, put_truth, put_u32};

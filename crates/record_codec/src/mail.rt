@@ -5,7 +5,10 @@ ghost use Rattle.record_codec.specs.Mail.{letter, mail, spot as spot_codec, toke
 ghost use Rattle.record_codec.specs.Reads.{Gives};
 
 use crate::fault::Unpack;
-use crate::reading::{header_at, lowered_at, truth_at, u8_at, u32_at, u32_or_zero_at, u64_at, u64_or_zero_at, state_or_zero_at, truth_or_zero_at};
+use crate::reading::{
+    header_at, lowered_at, state_or_zero_at, truth_at, truth_or_zero_at, u8_at, u32_at,
+    u32_or_zero_at, u64_at, u64_or_zero_at,
+};
 use crate::record::Packed;
 use crate::rows::{Row, list_at, put_list};
 use crate::writing::{put_header, put_state, put_truth, put_u8, put_u32, put_u64};
@@ -136,7 +139,13 @@ fn put_start(out: &mut Vec<u8>, breaks: bool, call: u32, file: u32) -> Result<()
     put_u32(out, file)
 }
 
-fn put_end(out: &mut Vec<u8>, key: u64, from: LeaseState, to: LeaseState, ack: bool) -> Result<(), AllocError>
+fn put_end(
+    out: &mut Vec<u8>,
+    key: u64,
+    from: LeaseState,
+    to: LeaseState,
+    ack: bool,
+) -> Result<(), AllocError>
     ensures { OnOk result (out.new.items ≡ out.old.items ++ ((u64_codec 12).spell key ++ ((state_codec 13).spell from ++ ((state_codec 14).spell to ++ (truth_codec 15).spell ack)))) }
 {
     put_u64(out, key)?;

@@ -107,7 +107,12 @@ pub(crate) fn open_id_at(bytes: &[u8]) -> Result<(OpenId, &[u8]), Unpack>
     Ok((OpenId { pid, call }, rest))
 }
 
-pub(crate) fn u32_within(bytes: &[u8], field: u32, low: u32, high: u32) -> Result<(u32, &[u8]), Unpack>
+pub(crate) fn u32_within(
+    bytes: &[u8],
+    field: u32,
+    low: u32,
+    high: u32,
+) -> Result<(u32, &[u8]), Unpack>
     ensures { Gives (λ x. (x.0, x.1.now)) result ((u32_in field (within low high)).read bytes.now) }
 {
     let (number, rest) = u32_at(bytes)?;
@@ -128,7 +133,11 @@ pub(crate) fn moment_at(bytes: &[u8], field: u32) -> Result<(u64, &[u8]), Unpack
 }
 
 /// A number that is 0 unless the condition holds.
-pub(crate) fn u32_or_zero_at(bytes: &[u8], field: u32, condition: bool) -> Result<(u32, &[u8]), Unpack>
+pub(crate) fn u32_or_zero_at(
+    bytes: &[u8],
+    field: u32,
+    condition: bool,
+) -> Result<(u32, &[u8]), Unpack>
     ensures { Gives (λ x. (x.0, x.1.now)) result ((u32_in field (zero_unless condition)).read bytes.now) }
 {
     let (number, rest) = u32_at(bytes)?;
@@ -138,7 +147,11 @@ pub(crate) fn u32_or_zero_at(bytes: &[u8], field: u32, condition: bool) -> Resul
     Ok((number, rest))
 }
 
-pub(crate) fn u64_or_zero_at(bytes: &[u8], field: u32, condition: bool) -> Result<(u64, &[u8]), Unpack>
+pub(crate) fn u64_or_zero_at(
+    bytes: &[u8],
+    field: u32,
+    condition: bool,
+) -> Result<(u64, &[u8]), Unpack>
     ensures { Gives (λ x. (x.0, x.1.now)) result ((u64_in field (zero_unless condition)).read bytes.now) }
 {
     let (number, rest) = u64_at(bytes)?;
@@ -148,7 +161,11 @@ pub(crate) fn u64_or_zero_at(bytes: &[u8], field: u32, condition: bool) -> Resul
     Ok((number, rest))
 }
 
-pub(crate) fn truth_or_zero_at(bytes: &[u8], field: u32, condition: bool) -> Result<(bool, &[u8]), Unpack>
+pub(crate) fn truth_or_zero_at(
+    bytes: &[u8],
+    field: u32,
+    condition: bool,
+) -> Result<(bool, &[u8]), Unpack>
     ensures { Gives (λ x. (x.0, x.1.now)) result ((truth_in field (zero_unless condition)).read bytes.now) }
 {
     let (number, rest) = u8_at(bytes)?;
@@ -174,7 +191,11 @@ pub(crate) fn state_at(bytes: &[u8], field: u32) -> Result<(LeaseState, &[u8]), 
     Ok((LeaseState(number), rest))
 }
 
-pub(crate) fn state_or_zero_at(bytes: &[u8], field: u32, condition: bool) -> Result<(LeaseState, &[u8]), Unpack>
+pub(crate) fn state_or_zero_at(
+    bytes: &[u8],
+    field: u32,
+    condition: bool,
+) -> Result<(LeaseState, &[u8]), Unpack>
     ensures { Gives (λ x. (x.0, x.1.now)) result ((state_in field (zero_unless condition)).read bytes.now) }
 {
     let (number, rest) = u8_at(bytes)?;
@@ -195,7 +216,12 @@ fn is_lowered(number: u8, breaking: bool, held: LeaseState) -> bool
 }
 
 /// What a break may lower a state to; 0 where there is no break.
-pub(crate) fn lowered_at(bytes: &[u8], field: u32, breaking: bool, held: LeaseState) -> Result<(LeaseState, &[u8]), Unpack>
+pub(crate) fn lowered_at(
+    bytes: &[u8],
+    field: u32,
+    breaking: bool,
+    held: LeaseState,
+) -> Result<(LeaseState, &[u8]), Unpack>
     ensures { Gives (λ x. (x.0, x.1.now)) result ((state_in field (lowered breaking held)).read bytes.now) }
 {
     let (number, rest) = u8_at(bytes)?;
@@ -216,7 +242,12 @@ fn is_needed(number: u8, breaking: bool, asked: LeaseState) -> bool
 }
 
 /// What a break needs in the end; 0 where there is no break.
-pub(crate) fn needed_at(bytes: &[u8], field: u32, breaking: bool, asked: LeaseState) -> Result<(LeaseState, &[u8]), Unpack>
+pub(crate) fn needed_at(
+    bytes: &[u8],
+    field: u32,
+    breaking: bool,
+    asked: LeaseState,
+) -> Result<(LeaseState, &[u8]), Unpack>
     ensures { Gives (λ x. (x.0, x.1.now)) result ((state_in field (needed breaking asked)).read bytes.now) }
 {
     let (number, rest) = u8_at(bytes)?;

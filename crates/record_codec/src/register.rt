@@ -42,10 +42,19 @@ impl Row<u64> for EndedRow {
     }
 }
 
-fn ended_at(alloc: Global, bytes: &[u8], alive: bool, session: u32) -> Result<(Items<u64>, &[u8]), Unpack>
+fn ended_at(
+    alloc: Global,
+    bytes: &[u8],
+    alive: bool,
+    session: u32,
+) -> Result<(Items<u64>, &[u8]), Unpack>
     ensures { Gives (λ x. (x.0, x.1.now)) result ((list_in 7 (ended_count alive session) (ended_codec 8)).read bytes.now) }
 {
-    let sessions = if alive { session.saturating_sub(1) } else { session };
+    let sessions = if alive {
+        session.saturating_sub(1)
+    } else {
+        session
+    };
     let (count, rest) = u32_at(bytes)?;
     if count != sessions {
         return Err(Unpack::BadField(7));

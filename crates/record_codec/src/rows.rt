@@ -22,7 +22,11 @@ pub(crate) trait Row<T: Copy> {
         ensures { OnOk result (out.new.items ≡ out.old.items ++ codec.spell item.now) };
 }
 
-pub(crate) fn rows_at<T: Copy, R: Row<T>>(alloc: Global, count: u32, bytes: &[u8]) -> Result<(Vec<T>, &[u8]), Unpack>
+pub(crate) fn rows_at<T: Copy, R: Row<T>>(
+    alloc: Global,
+    count: u32,
+    bytes: &[u8],
+) -> Result<(Vec<T>, &[u8]), Unpack>
     ensures { Gives (λ x. (x.0.items, x.1.now)) result (times_read R.codec.read count bytes.now) }
 {
     // No item has fewer than 8 bytes, so a false count reserves no more than the bytes can hold.
@@ -36,7 +40,10 @@ pub(crate) fn rows_at<T: Copy, R: Row<T>>(alloc: Global, count: u32, bytes: &[u8
     Ok((rows, rest))
 }
 
-pub(crate) fn list_at<T: Copy, R: Row<T>>(alloc: Global, bytes: &[u8]) -> Result<(Items<T>, &[u8]), Unpack>
+pub(crate) fn list_at<T: Copy, R: Row<T>>(
+    alloc: Global,
+    bytes: &[u8],
+) -> Result<(Items<T>, &[u8]), Unpack>
     ensures { Gives (λ x. (x.0, x.1.now)) result ((list 0 R.codec).read bytes.now) }
 {
     let (count, rest) = u32_at(bytes)?;

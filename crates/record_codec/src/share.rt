@@ -6,11 +6,16 @@ ghost use Rattle.record_codec.specs.Share.{access as access_codec, is_access as 
 ghost use Rattle.record_codec.specs.Reads.{Gives};
 
 use crate::fault::Unpack;
-use crate::reading::{header_at, moment_at, open_id_at, sid_at, text_at, truth_at, u8_at, u32_at, u32_or_zero_at, u64_or_zero_at};
+use crate::reading::{
+    header_at, moment_at, open_id_at, sid_at, text_at, truth_at, u8_at, u32_at, u32_or_zero_at,
+    u64_or_zero_at,
+};
 use crate::record::Packed;
 use crate::rows::{Row, list_at, put_list};
 use crate::watch::{WatchRec, WatchRow};
-use crate::writing::{put_header, put_open_id, put_sid, put_text, put_truth, put_u8, put_u32, put_u64};
+use crate::writing::{
+    put_header, put_open_id, put_sid, put_text, put_truth, put_u8, put_u32, put_u64,
+};
 use sid_core::{Access, Items, LeaseName, OpenId, OutOfMemory, Share, Sid, Text};
 use std::alloc::{AllocError, Global};
 
@@ -190,7 +195,7 @@ impl Packed for ShareRec {
     #[tactic(auto, unfolding(crate::specs::Share::shares))]
     fn pack(&self, alloc: Global) -> Result<Vec<u8>, OutOfMemory> {
         let texts = self.path.bytes().len() + self.name.bytes().len();
-        let size = 22 + texts + 57 * self.entries.len() + 12 * self.watchers.len();
+        let size = 22 + texts + 54 * self.entries.len() + 12 * self.watchers.len();
         let mut out = Vec::with_capacity(alloc, size)?;
         put_header(&mut out, *b"SHAR")?;
         self.put_file(&mut out)?;
