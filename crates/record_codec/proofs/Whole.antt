@@ -7,6 +7,7 @@ use Rattle.record_codec.specs.declared.fault.Unpack.{Unpack}
 use Rattle.record_codec.specs.declared.fault.Unpack.TheVariants.{Magic, Version, Short, Trailing, BadField, OutOfMemory}
 use Rattle.record_codec.specs.Codec.{Codec, Spells, FirstFault, read_all}
 use Rattle.record_codec.specs.Reads.{Fails, Gives, Explains, IsOkOrMemory, IsErrOrMemory}
+use Rattle.record_codec.specs.Laws.{IsGrammar}
 use Rattle.record_codec.proofs.Bytes.{IsBytes}
 use Rattle.record_codec.proofs.Exact.{IsExact, bind_ok, bind_err, passed, not_passed}
 
@@ -78,3 +79,25 @@ is_faulty c exact bytes (Ok y) given e h =
 is_faulty c exact bytes (Err d) given e h =
     let f = all_faulty c exact bytes e h in
     elim (fails_with d (read_all c bytes) given) [ inl m ↦ inr m | inr g ↦ inl cc ]
+
+-- ---- the laws
+
+value_or_fault : {A : Type 0} (c : Codec A) → IsExact c → (bytes : List ℕ) → IsBytes bytes → (r : Result A Unpack) → read_all c bytes ≡ r → ((x : A) × Spells c x bytes) ⊎ ((e : Unpack) × FirstFault c bytes e)
+value_or_fault c exact bytes fits (Ok x) e = inl (x, all_takes c exact bytes x fits e)
+value_or_fault c exact bytes fits (Err d) e = inr (d, all_fails c exact bytes d fits e)
+
+pub exact_is_grammar : {A : Type 0} (c : Codec A) → IsExact c → IsGrammar c
+exact_is_grammar c exact = record {
+  back = λ x v. record { valid = v; bytes_are = refl };
+  one_spelling = λ x bytes others s t. s.bytes_are ∙ sym t.bytes_are;
+  one_value = λ x y bytes s t.
+    let a = all_again c exact bytes x s in
+    let b = all_again c exact bytes y t in cc;
+  no_fault = λ x bytes e s f.
+    let a = all_again c exact bytes x s in
+    let b = all_faulty c exact bytes e f in absurd cc;
+  one_fault = λ bytes e f s t.
+    let a = all_faulty c exact bytes e s in
+    let b = all_faulty c exact bytes f t in cc;
+  either = λ bytes fits. value_or_fault c exact bytes fits (read_all c bytes) refl;
+}

@@ -8,3 +8,4 @@ pub mod Lease
 pub mod Register
 pub mod Range
 pub mod Mail
+pub mod Laws

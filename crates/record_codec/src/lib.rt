@@ -4,6 +4,7 @@
 mod fault;
 mod glock;
 mod handle;
+mod laws;
 mod lease;
 mod mail;
 mod ranges;
@@ -18,6 +19,7 @@ mod writing;
 pub use fault::Unpack;
 pub use glock::{GLockRec, Hold};
 pub use handle::OpenRec;
+pub use laws::{packed_and_unpacked, records_are_grammars};
 pub use lease::{LeaseRec, LeaseRef};
 pub use mail::{MailRec, Token};
 pub use ranges::{RangeItem, RangeRec};
