@@ -91,13 +91,13 @@ exact_is_grammar c exact = record {
   back = λ x v. record { valid = v; bytes_are = refl };
   one_spelling = λ x bytes others s t. s.bytes_are ∙ sym t.bytes_are;
   one_value = λ x y bytes s t.
-    let a = all_again c exact bytes x s in
-    let b = all_again c exact bytes y t in cc;
+      let a = all_again c exact bytes x s in
+      let b = all_again c exact bytes y t in cc;
   no_fault = λ x bytes e s f.
-    let a = all_again c exact bytes x s in
-    let b = all_faulty c exact bytes e f in absurd cc;
+      let a = all_again c exact bytes x s in
+      let b = all_faulty c exact bytes e f in absurd cc;
   one_fault = λ bytes e f s t.
-    let a = all_faulty c exact bytes e s in
-    let b = all_faulty c exact bytes f t in cc;
+      let a = all_faulty c exact bytes e s in
+      let b = all_faulty c exact bytes f t in cc;
   either = λ bytes fits. value_or_fault c exact bytes fits (read_all c bytes) refl;
 }

@@ -22,8 +22,7 @@ pub fn records_are_grammars()
     ensures register_rec { IsGrammar ⟦<RegisterRec as Packed>⟧.codec }
     ensures range_rec { IsGrammar ⟦<RangeRec as Packed>⟧.codec }
     ensures mail_rec { IsGrammar ⟦<MailRec as Packed>⟧.codec }
-{
-}
+{}
 
 /// A record that is packed and unpacked again is the same record.
 pub fn packed_and_unpacked<T: Packed>(alloc: Global, value: &T) -> Result<T, Unpack>

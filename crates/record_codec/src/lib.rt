@@ -27,3 +27,6 @@ pub use record::Packed;
 pub use register::RegisterRec;
 pub use share::{ShareEntry, ShareRec};
 pub use watch::WatchRec;
+
+#[cfg(test)]
+mod tests;
