@@ -11,3 +11,4 @@ pub mod LeaseExact
 pub mod RegisterExact
 pub mod RangeExact
 pub mod MailExact
+pub mod Sizes

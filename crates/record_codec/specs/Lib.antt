@@ -9,3 +9,4 @@ pub mod Register
 pub mod Range
 pub mod Mail
 pub mod Laws
+pub mod Counts

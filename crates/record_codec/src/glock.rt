@@ -1,4 +1,4 @@
-ghost use Rattle.std.specs.Prelude.{◌≡◌, ◌++◌, OnOk};
+ghost use Rattle.std.specs.Prelude.{◌≡◌, ◌++◌, OnOk, length};
 ghost use Rattle.record_codec.specs.Codec.{read_all};
 ghost use Rattle.record_codec.specs.GLock.{hold, upgrade_watch, glock};
 ghost use Rattle.record_codec.specs.Reads.{Gives};
@@ -79,13 +79,23 @@ fn glock_of(alloc: Global, bytes: &[u8]) -> Result<GLockRec, Unpack>
     Ok(GLockRec { holds, watchers })
 }
 
+impl GLockRec {
+    // How many bytes the record has.
+    #[tactic(auto, unfolding(crate::specs::GLock::glock))]
+    fn size(&self) -> usize
+        requires { glock.valid self.now }
+        ensures { result ≡ length (glock.spell self.now) }
+    {
+        14 + 9 * self.holds.len() + 13 * self.watchers.len()
+    }
+}
+
 impl Packed for GLockRec {
     ghost codec = { glock };
 
     #[tactic(auto, unfolding(crate::specs::GLock::glock))]
     fn pack(&self, alloc: Global) -> Result<Vec<u8>, OutOfMemory> {
-        let size = 14 + 9 * self.holds.len() + 13 * self.watchers.len();
-        let mut out = Vec::with_capacity(alloc, size)?;
+        let mut out = Vec::with_capacity(alloc, self.size())?;
         put_header(&mut out, *b"GLCK")?;
         put_list::<Hold, HoldRow>(&mut out, self.holds.as_slice())?;
         put_list::<WatchRec, UpgradeRow>(&mut out, self.watchers.as_slice())?;

@@ -1,4 +1,4 @@
-ghost use Rattle.std.specs.Prelude.{◌≡◌, ◌++◌, OnOk};
+ghost use Rattle.std.specs.Prelude.{◌≡◌, ◌++◌, OnOk, length};
 ghost use Rattle.record_codec.specs.Codec.{read_all};
 ghost use Rattle.record_codec.specs.Fields.{state as state_codec, state_in, truth as truth_codec};
 ghost use Rattle.record_codec.specs.Lease.{lease, lease_ref, needed as needed_set};
@@ -80,6 +80,15 @@ fn lease_of(alloc: Global, bytes: &[u8]) -> Result<LeaseRec, Unpack>
 }
 
 impl LeaseRec {
+    // How many bytes the record has.
+    #[tactic(auto, unfolding(crate::specs::Lease::lease))]
+    fn size(&self) -> usize
+        requires { lease.valid self.now }
+        ensures { result ≡ length (lease.spell self.now) }
+    {
+        18 + 20 * self.refs.len()
+    }
+
     fn put_break(&self, out: &mut Vec<u8>) -> Result<(), AllocError>
         ensures { OnOk result (out.new.items ≡ out.old.items ++ ((truth_codec 5).spell self.now.breaking ++ ((state_codec 6).spell self.now.asked ++ (state_codec 7).spell self.now.needed))) }
     {
@@ -94,8 +103,7 @@ impl Packed for LeaseRec {
 
     #[tactic(auto, unfolding(crate::specs::Lease::lease))]
     fn pack(&self, alloc: Global) -> Result<Vec<u8>, OutOfMemory> {
-        let size = 18 + 20 * self.refs.len();
-        let mut out = Vec::with_capacity(alloc, size)?;
+        let mut out = Vec::with_capacity(alloc, self.size())?;
         put_header(&mut out, *b"LEAS")?;
         put_u32(&mut out, self.file)?;
         put_state(&mut out, self.held)?;

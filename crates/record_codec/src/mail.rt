@@ -1,4 +1,4 @@
-ghost use Rattle.std.specs.Prelude.{◌≡◌, ◌++◌, OnOk};
+ghost use Rattle.std.specs.Prelude.{◌≡◌, ◌++◌, OnOk, length};
 ghost use Rattle.record_codec.specs.Codec.{read_all};
 ghost use Rattle.record_codec.specs.Fields.{state as state_codec, truth as truth_codec, u32 as u32_codec, u64 as u64_codec};
 ghost use Rattle.record_codec.specs.Mail.{letter, mail, spot as spot_codec, token};
@@ -172,13 +172,23 @@ fn mail_of(alloc: Global, bytes: &[u8]) -> Result<MailRec, Unpack>
     })
 }
 
+impl MailRec {
+    // How many bytes the record has.
+    #[tactic(auto, unfolding(crate::specs::Mail::mail))]
+    fn size(&self) -> usize
+        requires { mail.valid self.now }
+        ensures { result ≡ length (mail.spell self.now) }
+    {
+        18 + 13 * self.tokens.len() + 20 * self.letters.len()
+    }
+}
+
 impl Packed for MailRec {
     ghost codec = { mail };
 
     #[tactic(auto, unfolding(crate::specs::Mail::mail))]
     fn pack(&self, alloc: Global) -> Result<Vec<u8>, OutOfMemory> {
-        let size = 18 + 13 * self.tokens.len() + 20 * self.letters.len();
-        let mut out = Vec::with_capacity(alloc, size)?;
+        let mut out = Vec::with_capacity(alloc, self.size())?;
         put_header(&mut out, *b"MAIL")?;
         put_u32(&mut out, self.session)?;
         put_list::<Token, TokenRow>(&mut out, self.tokens.as_slice())?;

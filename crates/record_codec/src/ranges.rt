@@ -1,4 +1,4 @@
-ghost use Rattle.std.specs.Prelude.{◌≡◌, ◌++◌, OnOk};
+ghost use Rattle.std.specs.Prelude.{◌≡◌, ◌++◌, OnOk, length};
 ghost use Rattle.record_codec.specs.Codec.{read_all};
 ghost use Rattle.byteorder.specs.Endian.{little_bytes};
 ghost use Rattle.record_codec.specs.Fields.{mode as mode_codec, u64_in};
@@ -94,13 +94,23 @@ fn ranges_of(alloc: Global, bytes: &[u8]) -> Result<RangeRec, Unpack>
     })
 }
 
+impl RangeRec {
+    // How many bytes the record has.
+    #[tactic(auto, unfolding(crate::specs::Range::ranges))]
+    fn size(&self) -> usize
+        requires { ranges.valid self.now }
+        ensures { result ≡ length (ranges.spell self.now) }
+    {
+        18 + 25 * self.ranges.len() + 12 * self.watchers.len()
+    }
+}
+
 impl Packed for RangeRec {
     ghost codec = { ranges };
 
     #[tactic(auto, unfolding(crate::specs::Range::ranges))]
     fn pack(&self, alloc: Global) -> Result<Vec<u8>, OutOfMemory> {
-        let size = 18 + 25 * self.ranges.len() + 12 * self.watchers.len();
-        let mut out = Vec::with_capacity(alloc, size)?;
+        let mut out = Vec::with_capacity(alloc, self.size())?;
         put_header(&mut out, *b"BRLK")?;
         put_u32(&mut out, self.file)?;
         put_list::<RangeItem, RangeRow>(&mut out, self.ranges.as_slice())?;

@@ -1,4 +1,4 @@
-ghost use Rattle.std.specs.Prelude.{◌≡◌, ◌++◌, OnOk};
+ghost use Rattle.std.specs.Prelude.{◌≡◌, ◌++◌, OnOk, length};
 ghost use Rattle.record_codec.specs.Codec.{read_all};
 ghost use Rattle.byteorder.specs.Endian.{little_bytes};
 ghost use Rattle.record_codec.specs.Fields.{list_in, truth as truth_codec};
@@ -88,6 +88,15 @@ fn register_of(alloc: Global, bytes: &[u8]) -> Result<RegisterRec, Unpack>
 }
 
 impl RegisterRec {
+    // How many bytes the record has.
+    #[tactic(auto, unfolding(crate::specs::Register::register))]
+    fn size(&self) -> usize
+        requires { register.valid self.now }
+        ensures { result ≡ length (register.spell self.now) }
+    {
+        31 + 8 * self.ended.len() + 12 * self.watchers.len()
+    }
+
     fn put_head(&self, out: &mut Vec<u8>) -> Result<(), AllocError>
         ensures { OnOk result (out.new.items ≡ out.old.items ++ (little_bytes 4 self.now.worker ++ ((truth_codec 4).spell self.now.alive ++ (little_bytes 4 self.now.session ++ little_bytes 8 self.now.connected)))) }
     {
@@ -103,8 +112,7 @@ impl Packed for RegisterRec {
 
     #[tactic(auto, unfolding(crate::specs::Register::register))]
     fn pack(&self, alloc: Global) -> Result<Vec<u8>, OutOfMemory> {
-        let size = 31 + 8 * self.ended.len() + 12 * self.watchers.len();
-        let mut out = Vec::with_capacity(alloc, size)?;
+        let mut out = Vec::with_capacity(alloc, self.size())?;
         put_header(&mut out, *b"REGI")?;
         self.put_head(&mut out)?;
         put_list::<u64, EndedRow>(&mut out, self.ended.as_slice())?;

@@ -178,6 +178,16 @@ fn shares_of(alloc: Global, bytes: &[u8]) -> Result<ShareRec, Unpack>
 }
 
 impl ShareRec {
+    // How many bytes the record has.
+    #[tactic(auto, unfolding(crate::specs::Share::shares))]
+    fn size(&self) -> usize
+        requires { shares.valid self.now }
+        ensures { result ≡ length (shares.spell self.now) }
+    {
+        let texts = self.path.bytes().len() + self.name.bytes().len();
+        22 + texts + 54 * self.entries.len() + 12 * self.watchers.len()
+    }
+
     fn put_file(&self, out: &mut Vec<u8>) -> Result<(), AllocError>
         requires path { length self.now.path < 2 ^ 16 }
         requires name { length self.now.name < 2 ^ 16 }
@@ -194,9 +204,7 @@ impl Packed for ShareRec {
 
     #[tactic(auto, unfolding(crate::specs::Share::shares))]
     fn pack(&self, alloc: Global) -> Result<Vec<u8>, OutOfMemory> {
-        let texts = self.path.bytes().len() + self.name.bytes().len();
-        let size = 22 + texts + 54 * self.entries.len() + 12 * self.watchers.len();
-        let mut out = Vec::with_capacity(alloc, size)?;
+        let mut out = Vec::with_capacity(alloc, self.size())?;
         put_header(&mut out, *b"SHAR")?;
         self.put_file(&mut out)?;
         put_list::<ShareEntry, EntryRow>(&mut out, self.entries.as_slice())?;
