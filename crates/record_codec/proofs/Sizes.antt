@@ -17,7 +17,6 @@ use Rattle.record_codec.specs.declared.ranges.RangeRec.{RangeRec}
 use Rattle.record_codec.specs.declared.mail.Token.{Token}
 use Rattle.record_codec.specs.declared.mail.MailRec.{MailRec}
 use Rattle.sid_core.specs.declared.entry.Letter.{Letter}
-use Rattle.record_codec.specs.Codec.{Codec}
 use Rattle.record_codec.specs.Fields.{list, watch}
 use Rattle.record_codec.specs.GLock.{hold, upgrade_watch, glock}
 use Rattle.record_codec.specs.Share.{share_entry, shares}
@@ -60,10 +59,14 @@ shares_size r =
     let a = items_size share_entry.spell 54 share_entry_size r.entries in
     let b = items_size (watch 0 0 0).spell 12 watch_size r.watchers in
     let lists = (list 6 share_entry).spell r.entries ++ (list 19 (watch 0 0 0)).spell r.watchers in
-    omega (arith,
+    omega (
+      arith,
       length-append r.path (little_bytes 2 (length r.name) ++ r.name ++ lists),
       length-append r.name lists,
-      length-append (flat_map share_entry.spell r.entries) ((list 19 (watch 0 0 0)).spell r.watchers), a, b)
+      length-append (flat_map share_entry.spell r.entries) ((list 19 (watch 0 0 0)).spell r.watchers),
+      a,
+      b,
+    )
 
 lease_ref_size : (r : LeaseRef) → length (lease_ref.spell r) ≡ 20
 unfolding lease_ref

@@ -1,7 +1,7 @@
 -- What counts in a record. What doesn't is stale: it may stay until someone touches the record or tidies its chain.
-use Rattle.std.specs.Prelude.{ℕ, Bool, true, false, not, ◌==◌, ◌&&◌, ◌||◌, if◌then◌else◌, List, Option, Some, None, bit_and}
+use Rattle.std.specs.Prelude.{ℕ, Bool, false, not, ◌==◌, ◌&&◌, ◌||◌, if◌then◌else◌, Option, Some, None, bit_and}
 use Rattle.std.specs.List.{list_any, list_all, filter}
-use Rattle.sid_core.specs.Ids.{same_sid, same_id, same_spot}
+use Rattle.sid_core.specs.Ids.{same_id, same_spot}
 use Rattle.sid_core.specs.declared.ids.Sid.{Sid}
 use Rattle.sid_core.specs.declared.ids.Spot.{Spot}
 use Rattle.sid_core.specs.declared.ids.OpenId.{OpenId}
