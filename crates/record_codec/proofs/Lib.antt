@@ -12,3 +12,4 @@ pub mod RegisterExact
 pub mod RangeExact
 pub mod MailExact
 pub mod Sizes
+pub mod Sets

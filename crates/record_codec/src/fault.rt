@@ -3,6 +3,8 @@ ghost use Rattle.record_codec.specs.declared.fault.Unpack.TheVariants.{OutOfMemo
 
 use sid_core::OutOfMemory as NoMemory;
 use std::alloc::{AllocError, AllocFailed};
+use std::error::Error;
+use std::fmt;
 
 /// Why bytes could not be unpacked: the first fault of the bytes, or want of memory.
 #[derive(Clone, Copy, Debug, PartialEq, Eq)]
@@ -20,6 +22,21 @@ pub enum Unpack {
     /// The allocator refused.
     OutOfMemory,
 }
+
+impl fmt::Display for Unpack {
+    fn fmt<W: fmt::Write>(&self, f: &mut fmt::Formatter<W>) -> fmt::Result {
+        match self {
+            Unpack::Magic => f.write_str("no record of this kind"),
+            Unpack::Version => f.write_str("unknown version"),
+            Unpack::Short => f.write_str("too few bytes"),
+            Unpack::Trailing => f.write_str("bytes after the last field"),
+            Unpack::BadField(field) => write!(f, "field {field} is outside its set"),
+            Unpack::OutOfMemory => f.write_str("out of memory"),
+        }
+    }
+}
+
+impl Error for Unpack {}
 
 impl From<AllocError> for Unpack {
     ghost from_gives = { λ _ e. e ≡ OutOfMemory };

@@ -31,6 +31,8 @@ enum HoldRow {}
 impl Row<Hold> for HoldRow {
     ghost codec = { hold };
 
+    const SIZE: usize = 9;
+
     #[tactic(auto, unfolding(crate::specs::GLock::hold))]
     fn at(bytes: &[u8]) -> Result<(Hold, &[u8]), Unpack> {
         let (sid, rest) = sid_at(bytes)?;
@@ -49,6 +51,8 @@ enum UpgradeRow {}
 
 impl Row<WatchRec> for UpgradeRow {
     ghost codec = { upgrade_watch };
+
+    const SIZE: usize = 13;
 
     #[tactic(auto, unfolding(crate::specs::GLock::upgrade_watch))]
     fn at(bytes: &[u8]) -> Result<(WatchRec, &[u8]), Unpack> {

@@ -1,5 +1,11 @@
+ghost use Rattle.std.specs.Prelude.{◌↔◌, ℕ, List};
+ghost use Rattle.sid_core.specs.declared.bits.Access.{Access};
+ghost use Rattle.sid_core.specs.declared.bits.LeaseState.{LeaseState};
+ghost use Rattle.sid_core.specs.Values.{IsText, IsAccess, IsState};
+ghost use Rattle.record_codec.specs.Fields.{text, state};
 ghost use Rattle.record_codec.specs.Laws.{IsGrammar};
 ghost use Rattle.record_codec.specs.Reads.{IsOkOrMemory};
+ghost use Rattle.record_codec.specs.Share.{access};
 
 use crate::fault::Unpack;
 use crate::glock::GLockRec;
@@ -22,6 +28,13 @@ pub fn records_are_grammars()
     ensures register_rec { IsGrammar ⟦<RegisterRec as Packed>⟧.codec }
     ensures range_rec { IsGrammar ⟦<RangeRec as Packed>⟧.codec }
     ensures mail_rec { IsGrammar ⟦<MailRec as Packed>⟧.codec }
+{}
+
+/// The sets of texts, access rights and lease states in records are those that they have everywhere.
+pub fn sets_of_values()
+    ensures texts { (field : ℕ) (bytes : List ℕ) → (text field).valid bytes ↔ IsText bytes }
+    ensures rights { (field : ℕ) (rights : Access) → (access field).valid rights ↔ IsAccess rights.0 }
+    ensures states { (field : ℕ) (held : LeaseState) → (state field).valid held ↔ IsState held.0 }
 {}
 
 /// A record that is packed and unpacked again is the same record.

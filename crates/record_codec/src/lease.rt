@@ -39,6 +39,8 @@ enum RefRow {}
 impl Row<LeaseRef> for RefRow {
     ghost codec = { lease_ref };
 
+    const SIZE: usize = 20;
+
     #[tactic(auto, unfolding(crate::specs::Lease::lease_ref))]
     fn at(bytes: &[u8]) -> Result<(LeaseRef, &[u8]), Unpack> {
         let (id, rest) = open_id_at(bytes)?;

@@ -19,7 +19,7 @@ mod writing;
 pub use fault::Unpack;
 pub use glock::{GLockRec, Hold};
 pub use handle::OpenRec;
-pub use laws::{packed_and_unpacked, records_are_grammars};
+pub use laws::{packed_and_unpacked, records_are_grammars, sets_of_values};
 pub use lease::{LeaseRec, LeaseRef};
 pub use mail::{MailRec, Token};
 pub use ranges::{RangeItem, RangeRec};

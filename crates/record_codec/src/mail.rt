@@ -68,6 +68,8 @@ enum TokenRow {}
 impl Row<Token> for TokenRow {
     ghost codec = { token };
 
+    const SIZE: usize = 13;
+
     #[tactic(auto, unfolding(crate::specs::Mail::token))]
     fn at(bytes: &[u8]) -> Result<(Token, &[u8]), Unpack> {
         let (spot, rest) = spot_at(bytes)?;
@@ -86,6 +88,8 @@ enum LetterRow {}
 
 impl Row<Letter> for LetterRow {
     ghost codec = { letter };
+
+    const SIZE: usize = 20;
 
     #[tactic(auto, unfolding(crate::specs::Mail::letter))]
     fn at(bytes: &[u8]) -> Result<(Letter, &[u8]), Unpack> {

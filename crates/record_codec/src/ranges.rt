@@ -54,6 +54,8 @@ enum RangeRow {}
 impl Row<RangeItem> for RangeRow {
     ghost codec = { range_item };
 
+    const SIZE: usize = 25;
+
     #[tactic(auto, unfolding(crate::specs::Range::range_item))]
     fn at(bytes: &[u8]) -> Result<(RangeItem, &[u8]), Unpack> {
         let (id, rest) = open_id_at(bytes)?;

@@ -33,6 +33,8 @@ enum EndedRow {}
 impl Row<u64> for EndedRow {
     ghost codec = { ended_codec 8 };
 
+    const SIZE: usize = 8;
+
     fn at(bytes: &[u8]) -> Result<(u64, &[u8]), Unpack> {
         moment_at(bytes, 8)
     }

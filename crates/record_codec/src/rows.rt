@@ -14,6 +14,9 @@ use std::alloc::{AllocError, Global};
 pub(crate) trait Row<T: Copy> {
     ghost codec: { Codec T };
 
+    /// How many bytes an item has.
+    const SIZE: usize;
+
     fn at(bytes: &[u8]) -> Result<(T, &[u8]), Unpack>
         ensures { Gives (λ x. (x.0, x.1.now)) result (codec.read bytes.now) };
 
@@ -29,8 +32,9 @@ pub(crate) fn rows_at<T: Copy, R: Row<T>>(
 ) -> Result<(Vec<T>, &[u8]), Unpack>
     ensures { Gives (λ x. (x.0.items, x.1.now)) result (times_read R.codec.read count bytes.now) }
 {
-    // No item has fewer than 8 bytes, so a false count reserves no more than the bytes can hold.
-    let mut rows = Vec::with_capacity(alloc, (count as usize).min(bytes.len() / 8))?;
+    // A false count reserves no more than the bytes can hold.
+    let most = bytes.len() / R::SIZE.max(1);
+    let mut rows = Vec::with_capacity(alloc, most.min(count as usize))?;
     let mut rest = bytes;
     for _ in 0..count {
         let (row, after) = R::at(rest)?;

@@ -100,6 +100,8 @@ enum EntryRow {}
 impl Row<ShareEntry> for EntryRow {
     ghost codec = { share_entry };
 
+    const SIZE: usize = 54;
+
     #[tactic(auto, unfolding(crate::specs::Share::share_entry))]
     fn at(bytes: &[u8]) -> Result<(ShareEntry, &[u8]), Unpack> {
         let (id, rest) = open_id_at(bytes)?;

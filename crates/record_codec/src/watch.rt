@@ -21,6 +21,8 @@ pub(crate) enum WatchRow {}
 impl Row<WatchRec> for WatchRow {
     ghost codec = { watch 0 0 0 };
 
+    const SIZE: usize = 12;
+
     fn at(bytes: &[u8]) -> Result<(WatchRec, &[u8]), Unpack> {
         let (sid, rest) = sid_at(bytes)?;
         let (call, rest) = u32_at(rest)?;
