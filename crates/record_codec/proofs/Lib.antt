@@ -1,0 +1,15 @@
+pub mod Bytes
+pub mod Exact
+pub mod Whole
+pub mod Fields
+pub mod GLockExact
+pub mod Loop
+pub mod Append
+pub mod OpenExact
+pub mod ShareExact
+pub mod LeaseExact
+pub mod RegisterExact
+pub mod RangeExact
+pub mod MailExact
+pub mod Sizes
+pub mod Sets

@@ -1,0 +1,7 @@
+use Rattle.std.proofs.Common.{◌≡◌, ◌++◌, length, take}
+use Rattle.std.specs.List.{flat_map}
+use Rattle.byteorder.specs.Endian.{little_bytes}
+use Rattle.record_codec.proofs.rows.put_list.Given as goal
+
+abbrev pub invariant-loop-row : goal.invariant-loop-row
+invariant-loop-row g l = l.out.items ≡ l.fn.out.items ++ (little_bytes 4 (length l.rows) ++ flat_map g.R.Row.codec.spell (take l.row-index l.rows))

@@ -1,0 +1,132 @@
+-- What counts in a record. What doesn't is stale: it may stay until someone touches the record or tidies its chain.
+use Rattle.std.specs.Prelude.{ℕ, Bool, false, not, ◌==◌, ◌&&◌, ◌||◌, if◌then◌else◌, Option, Some, None, bit_and}
+use Rattle.std.specs.List.{list_any, list_all, filter}
+use Rattle.sid_core.specs.Ids.{same_id, same_spot}
+use Rattle.sid_core.specs.declared.ids.Sid.{Sid}
+use Rattle.sid_core.specs.declared.ids.Spot.{Spot}
+use Rattle.sid_core.specs.declared.ids.OpenId.{OpenId}
+use Rattle.sid_core.specs.declared.ids.LeaseName.{LeaseName}
+use Rattle.sid_core.specs.declared.bits.LeaseState.{LeaseState}
+use Rattle.record_codec.specs.declared.watch.WatchRec.{WatchRec}
+use Rattle.record_codec.specs.declared.glock.Hold.{Hold}
+use Rattle.record_codec.specs.declared.handle.OpenRec.{OpenRec}
+use Rattle.record_codec.specs.declared.share.ShareEntry.{ShareEntry}
+use Rattle.record_codec.specs.declared.share.ShareRec.{ShareRec}
+use Rattle.record_codec.specs.declared.lease.LeaseRef.{LeaseRef}
+use Rattle.record_codec.specs.declared.lease.LeaseRec.{LeaseRec}
+use Rattle.record_codec.specs.declared.register.RegisterRec.{RegisterRec}
+use Rattle.record_codec.specs.declared.ranges.RangeItem.{RangeItem}
+use Rattle.record_codec.specs.declared.mail.MailRec.{MailRec}
+
+-- The records that say what counts, by their keys. A missing record is an empty one.
+pub record Records : Type 0 where
+  pub register : ℕ → Option RegisterRec
+  pub mail : ℕ → Option MailRec
+  pub lease : LeaseName → Option LeaseRec
+
+-- ---- sessions and mailboxes
+
+abbrev pub is_current : Option RegisterRec → ℕ → Bool
+is_current None session = false
+is_current (Some record_) session = record_.alive && (record_.session == session)
+
+-- The session is the current one of a living worker.
+abbrev pub lives : Records → Sid → Bool
+lives records sid = is_current (records.register sid.pid) sid.session
+
+abbrev pub hold_counts : Records → Hold → Bool
+hold_counts records hold = lives records hold.sid
+
+-- the mailbox of this pid
+abbrev pub mailbox_counts : Records → ℕ → MailRec → Bool
+mailbox_counts records pid mail = lives records (record { pid = pid; session = mail.session })
+
+-- ---- watches
+
+abbrev pub has_token_at : Option MailRec → ℕ → Spot → ℕ → Bool
+has_token_at None session spot call = false
+has_token_at (Some mail) session spot call =
+    (mail.session == session) && list_any (λ token. same_spot token.spot spot && (token.call == call)) mail.tokens
+
+abbrev pub has_token : Option MailRec → ℕ → ℕ → Bool
+has_token None session call = false
+has_token (Some mail) session call = (mail.session == session) && list_any (λ token. token.call == call) mail.tokens
+
+-- A watch in the record of a spot: the mailbox of its session still waits there with its call.
+abbrev pub watch_counts : Records → Spot → WatchRec → Bool
+watch_counts records spot watch = has_token_at (records.mail watch.sid.pid) watch.sid.session spot watch.call
+
+-- A watch in the record of a worker: the mailbox of its session still waits with its call, wherever.
+abbrev pub register_watch_counts : Records → WatchRec → Bool
+register_watch_counts records watch = has_token (records.mail watch.sid.pid) watch.sid.session watch.call
+
+-- ---- leases
+
+abbrev pub is_connected : Records → LeaseRef → Bool
+is_connected records ref = lives records ref.owner
+
+abbrev pub has_handle : LeaseState → Bool
+has_handle state = not (bit_and state.0 2 == 0)
+
+-- A break that nobody can acknowledge is over: without a connected open the lease takes what is needed.
+abbrev pub is_unanswered : Records → LeaseRec → Bool
+is_unanswered records lease = lease.breaking && not (list_any (is_connected records) lease.refs)
+
+abbrev pub settled_state : Records → LeaseRec → LeaseState
+settled_state records lease = if is_unanswered records lease then lease.needed else lease.held
+
+-- Its owner lives, or it is durable and the settled lease has HANDLE.
+abbrev pub ref_counts : Records → LeaseRec → LeaseRef → Bool
+ref_counts records lease ref =
+    is_connected records ref || (not (ref.durable == 0) && has_handle (settled_state records lease))
+
+-- The lease record as settling leaves it: the break over where nobody can acknowledge it, and the references that count.
+abbrev pub settled_lease : Records → LeaseRec → LeaseRec
+settled_lease records lease =
+    if is_unanswered records lease
+    then record { file = lease.file; held = lease.needed; breaking = false; asked = record { 0 = 0 }; needed = record { 0 = 0 }; refs = filter (ref_counts records lease) lease.refs }
+    else record lease { refs = filter (ref_counts records lease) lease.refs }
+
+-- Settling changes nothing: a lease record that it would change has a stale part.
+abbrev pub lease_is_settled : Records → LeaseRec → Bool
+lease_is_settled records lease = not (is_unanswered records lease) && list_all (ref_counts records lease) lease.refs
+
+-- ---- opens
+
+-- The record under the entry's lease name keeps an entry of this file where it is of this file, has a reference
+-- of the entry's id, and has HANDLE once it is settled.
+abbrev pub keeps : Records → ℕ → OpenId → Option LeaseRec → Bool
+keeps records file id None = false
+keeps records file id (Some lease) =
+    (lease.file == file) && list_any (λ ref. same_id ref.id id) lease.refs && has_handle (settled_state records lease)
+
+abbrev pub is_kept : Records → ℕ → OpenId → Option LeaseName → Bool
+is_kept records file id None = false
+is_kept records file id (Some name) = keeps records file id (records.lease name)
+
+-- An entry of the share mode record of this file: its owner lives, or it is durable and its lease keeps it.
+abbrev pub entry_counts : Records → ℕ → ShareEntry → Bool
+entry_counts records file entry =
+    lives records entry.owner || (not (entry.durable == 0) && is_kept records file entry.id entry.lease)
+
+abbrev pub entry_of_id_counts : Records → OpenId → Option ShareRec → Bool
+entry_of_id_counts records id None = false
+entry_of_id_counts records id (Some share) = list_any (λ entry. same_id entry.id id && entry_counts records share.file entry) share.entries
+
+-- A range, by the share mode record of its file: the entry of its open counts.
+abbrev pub range_counts : Records → Option ShareRec → RangeItem → Bool
+range_counts records share range = entry_of_id_counts records range.id share
+
+-- An open record, by the share mode record of its file: there is an entry of its id that counts.
+abbrev pub open_counts : Records → Option ShareRec → OpenRec → Bool
+open_counts records share open_ = entry_of_id_counts records open_.id share
+
+abbrev pub entry_serves : Records → ℕ → ℕ → OpenId → Option ShareRec → Bool
+entry_serves records pid handle id None = false
+entry_serves records pid handle id (Some share) =
+    list_any (λ entry. same_id entry.id id && entry_counts records share.file entry && (entry.owner.pid == pid) && lives records entry.owner && (entry.handle == handle)) share.entries
+
+-- An open record under this pid and handle serves as a handle: besides, its entry's owner is the current session of the
+-- pid and its handle is this one.
+abbrev pub serves : Records → ℕ → ℕ → Option ShareRec → OpenRec → Bool
+serves records pid handle share open_ = entry_serves records pid handle open_.id share

@@ -1,0 +1,12 @@
+pub mod Codec
+pub mod Fields
+pub mod Reads
+pub mod Open
+pub mod GLock
+pub mod Share
+pub mod Lease
+pub mod Register
+pub mod Range
+pub mod Mail
+pub mod Laws
+pub mod Counts

@@ -1,0 +1,298 @@
+ghost use Rattle.std.specs.Prelude.{◌≡◌, ℕ, List};
+ghost use Rattle.std.specs.List.{list_all};
+ghost use Rattle.byteorder.specs.Endian.{little_number};
+ghost use Rattle.sid_core.specs.Values.{is_state as is_state_number};
+ghost use Rattle.record_codec.specs.declared.fault.Unpack.TheVariants.{BadField};
+ghost use Rattle.record_codec.specs.Codec.{raw, number as number_codec, read_run};
+ghost use Rattle.record_codec.specs.Fields.{header, within, is_moment, is_printable, is_text_length, lowered, u32_in, u64_in, zero_unless, truth, truth_in, mode, state, state_in, sid, open_id, text};
+ghost use Rattle.record_codec.specs.Lease.{needed};
+ghost use Rattle.record_codec.specs.Reads.{Gives};
+
+use crate::fault::Unpack;
+use byteorder::{ByteOrder, LittleEndian};
+use sid_core::{LeaseState, Mode, OpenId, Sid, Text};
+use std::alloc::Global;
+
+#[tactic(auto, unfolding(crate::specs::Codec::raw))]
+pub(crate) fn u8_at(bytes: &[u8]) -> Result<(u8, &[u8]), Unpack>
+    ensures { Gives (λ x. (x.0, x.1.now)) result (raw 1 bytes.now) }
+{
+    match bytes {
+        [] => Err(Unpack::Short),
+        [number, rest @ ..] => Ok((*number, rest)),
+    }
+}
+
+#[tactic(auto, unfolding(crate::specs::Codec::raw))]
+pub(crate) fn u16_at(bytes: &[u8]) -> Result<(u16, &[u8]), Unpack>
+    ensures { Gives (λ x. (x.0, x.1.now)) result (raw 2 bytes.now) }
+{
+    if bytes.len() < 2 {
+        return Err(Unpack::Short);
+    }
+    let number = LittleEndian::read_u16(bytes);
+    Ok((number, &bytes[2..]))
+}
+
+#[tactic(auto, unfolding(crate::specs::Codec::raw))]
+pub(crate) fn u32_at(bytes: &[u8]) -> Result<(u32, &[u8]), Unpack>
+    ensures { Gives (λ x. (x.0, x.1.now)) result (raw 4 bytes.now) }
+{
+    if bytes.len() < 4 {
+        return Err(Unpack::Short);
+    }
+    let number = LittleEndian::read_u32(bytes);
+    Ok((number, &bytes[4..]))
+}
+
+#[tactic(auto, unfolding(crate::specs::Codec::raw))]
+pub(crate) fn u64_at(bytes: &[u8]) -> Result<(u64, &[u8]), Unpack>
+    ensures { Gives (λ x. (x.0, x.1.now)) result (raw 8 bytes.now) }
+{
+    if bytes.len() < 8 {
+        return Err(Unpack::Short);
+    }
+    let number = LittleEndian::read_u64(bytes);
+    Ok((number, &bytes[8..]))
+}
+
+/// The bytes after a header with this magic and version 1.
+pub(crate) fn header_at(bytes: &[u8], word: [u8; 4]) -> Result<&[u8], Unpack>
+    ensures { Gives (λ rest. ((little_number 4 word, 1), rest.now)) result ((header word).read bytes.now) }
+{
+    let (magic, rest) = u32_at(bytes)?;
+    if magic != LittleEndian::read_u32(&word) {
+        return Err(Unpack::Magic);
+    }
+    let (version, rest) = u16_at(rest)?;
+    if version != 1 {
+        return Err(Unpack::Version);
+    }
+    Ok(rest)
+}
+
+pub(crate) fn truth_at(bytes: &[u8], field: u32) -> Result<(bool, &[u8]), Unpack>
+    ensures { Gives (λ x. (x.0, x.1.now)) result ((truth field).read bytes.now) }
+{
+    match u8_at(bytes)? {
+        (0, rest) => Ok((false, rest)),
+        (1, rest) => Ok((true, rest)),
+        _ => Err(Unpack::BadField(field)),
+    }
+}
+
+pub(crate) fn mode_at(bytes: &[u8], field: u32) -> Result<(Mode, &[u8]), Unpack>
+    ensures { Gives (λ x. (x.0, x.1.now)) result ((mode field).read bytes.now) }
+{
+    match u8_at(bytes)? {
+        (0, rest) => Ok((Mode::Shared, rest)),
+        (1, rest) => Ok((Mode::Exclusive, rest)),
+        _ => Err(Unpack::BadField(field)),
+    }
+}
+
+pub(crate) fn sid_at(bytes: &[u8]) -> Result<(Sid, &[u8]), Unpack>
+    ensures { Gives (λ x. (x.0, x.1.now)) result ((sid 0 0).read bytes.now) }
+{
+    let (pid, rest) = u32_at(bytes)?;
+    let (session, rest) = u32_at(rest)?;
+    Ok((Sid { pid, session }, rest))
+}
+
+pub(crate) fn open_id_at(bytes: &[u8]) -> Result<(OpenId, &[u8]), Unpack>
+    ensures { Gives (λ x. (x.0, x.1.now)) result ((open_id 0 0).read bytes.now) }
+{
+    let (pid, rest) = u32_at(bytes)?;
+    let (call, rest) = u32_at(rest)?;
+    Ok((OpenId { pid, call }, rest))
+}
+
+pub(crate) fn u32_within(
+    bytes: &[u8],
+    field: u32,
+    low: u32,
+    high: u32,
+) -> Result<(u32, &[u8]), Unpack>
+    ensures { Gives (λ x. (x.0, x.1.now)) result ((u32_in field (within low high)).read bytes.now) }
+{
+    let (number, rest) = u32_at(bytes)?;
+    if number < low || high < number {
+        return Err(Unpack::BadField(field));
+    }
+    Ok((number, rest))
+}
+
+pub(crate) fn moment_at(bytes: &[u8], field: u32) -> Result<(u64, &[u8]), Unpack>
+    ensures { Gives (λ x. (x.0, x.1.now)) result ((u64_in field is_moment).read bytes.now) }
+{
+    let (number, rest) = u64_at(bytes)?;
+    if number > 9_999_999_999 {
+        return Err(Unpack::BadField(field));
+    }
+    Ok((number, rest))
+}
+
+/// A number that is 0 unless the condition holds.
+pub(crate) fn u32_or_zero_at(
+    bytes: &[u8],
+    field: u32,
+    condition: bool,
+) -> Result<(u32, &[u8]), Unpack>
+    ensures { Gives (λ x. (x.0, x.1.now)) result ((u32_in field (zero_unless condition)).read bytes.now) }
+{
+    let (number, rest) = u32_at(bytes)?;
+    if !condition && number != 0 {
+        return Err(Unpack::BadField(field));
+    }
+    Ok((number, rest))
+}
+
+pub(crate) fn u64_or_zero_at(
+    bytes: &[u8],
+    field: u32,
+    condition: bool,
+) -> Result<(u64, &[u8]), Unpack>
+    ensures { Gives (λ x. (x.0, x.1.now)) result ((u64_in field (zero_unless condition)).read bytes.now) }
+{
+    let (number, rest) = u64_at(bytes)?;
+    if !condition && number != 0 {
+        return Err(Unpack::BadField(field));
+    }
+    Ok((number, rest))
+}
+
+pub(crate) fn truth_or_zero_at(
+    bytes: &[u8],
+    field: u32,
+    condition: bool,
+) -> Result<(bool, &[u8]), Unpack>
+    ensures { Gives (λ x. (x.0, x.1.now)) result ((truth_in field (zero_unless condition)).read bytes.now) }
+{
+    let (number, rest) = u8_at(bytes)?;
+    if 1 < number || !condition && number != 0 {
+        return Err(Unpack::BadField(field));
+    }
+    Ok((number == 1, rest))
+}
+
+fn is_state(state: u8) -> bool
+    ensures { result ≡ is_state_number state }
+{
+    state == 0 || state == 1 || state == 3 || state == 5 || state == 7
+}
+
+pub(crate) fn state_at(bytes: &[u8], field: u32) -> Result<(LeaseState, &[u8]), Unpack>
+    ensures { Gives (λ x. (x.0, x.1.now)) result ((state field).read bytes.now) }
+{
+    let (number, rest) = u8_at(bytes)?;
+    if !is_state(number) {
+        return Err(Unpack::BadField(field));
+    }
+    Ok((LeaseState(number), rest))
+}
+
+pub(crate) fn state_or_zero_at(
+    bytes: &[u8],
+    field: u32,
+    condition: bool,
+) -> Result<(LeaseState, &[u8]), Unpack>
+    ensures { Gives (λ x. (x.0, x.1.now)) result ((state_in field (zero_unless condition)).read bytes.now) }
+{
+    let (number, rest) = u8_at(bytes)?;
+    if !is_state(number) || !condition && number != 0 {
+        return Err(Unpack::BadField(field));
+    }
+    Ok((LeaseState(number), rest))
+}
+
+fn is_lowered(number: u8, breaking: bool, held: LeaseState) -> bool
+    ensures { result ≡ lowered breaking held number }
+{
+    if breaking {
+        number & held.0 == number && number != held.0
+    } else {
+        number == 0
+    }
+}
+
+/// What a break may lower a state to; 0 where there is no break.
+pub(crate) fn lowered_at(
+    bytes: &[u8],
+    field: u32,
+    breaking: bool,
+    held: LeaseState,
+) -> Result<(LeaseState, &[u8]), Unpack>
+    ensures { Gives (λ x. (x.0, x.1.now)) result ((state_in field (lowered breaking held)).read bytes.now) }
+{
+    let (number, rest) = u8_at(bytes)?;
+    if !is_state(number) || !is_lowered(number, breaking, held) {
+        return Err(Unpack::BadField(field));
+    }
+    Ok((LeaseState(number), rest))
+}
+
+fn is_needed(number: u8, breaking: bool, asked: LeaseState) -> bool
+    ensures { result ≡ needed breaking asked number }
+{
+    if breaking {
+        number & asked.0 == number
+    } else {
+        number == 0
+    }
+}
+
+/// What a break needs in the end; 0 where there is no break.
+pub(crate) fn needed_at(
+    bytes: &[u8],
+    field: u32,
+    breaking: bool,
+    asked: LeaseState,
+) -> Result<(LeaseState, &[u8]), Unpack>
+    ensures { Gives (λ x. (x.0, x.1.now)) result ((state_in field (needed breaking asked)).read bytes.now) }
+{
+    let (number, rest) = u8_at(bytes)?;
+    if !is_state(number) || !is_needed(number, breaking, asked) {
+        return Err(Unpack::BadField(field));
+    }
+    Ok((LeaseState(number), rest))
+}
+
+fn are_printable(bytes: &[u8]) -> bool
+    ensures { result ≡ list_all is_printable bytes.now }
+{
+    bytes.iter().all(|byte| 0x21 <= *byte && *byte <= 0x7E)
+}
+
+#[tactic(auto, unfolding(crate::specs::Codec::read_run))]
+fn run_at(bytes: &[u8], len: usize, field: u32) -> Result<(&[u8], &[u8]), Unpack>
+    ensures { Gives (λ x. (x.0.now, x.1.now)) result (read_run len (list_all is_printable) (BadField field) bytes.now) }
+{
+    if bytes.len() < len {
+        return Err(Unpack::Short);
+    }
+    let (front, rest) = bytes.split_at(len);
+    if !are_printable(front) {
+        return Err(Unpack::BadField(field));
+    }
+    Ok((front, rest))
+}
+
+fn text_length_at(bytes: &[u8], field: u32) -> Result<(u16, &[u8]), Unpack>
+    ensures { Gives (λ x. (x.0, x.1.now)) result ((number_codec 2 is_text_length (BadField field)).read bytes.now) }
+{
+    let (len, rest) = u16_at(bytes)?;
+    if len < 1 || 255 < len {
+        return Err(Unpack::BadField(field));
+    }
+    Ok((len, rest))
+}
+
+pub(crate) fn text_at(alloc: Global, bytes: &[u8], field: u32) -> Result<(Text, &[u8]), Unpack>
+    ensures { Gives (λ x. (x.0, x.1.now)) result ((text field).read bytes.now) }
+{
+    let (len, rest) = text_length_at(bytes, field)?;
+    let (front, rest) = run_at(rest, len as usize, field)?;
+    let mut text = Text::new(alloc);
+    text.push(front)?;
+    Ok((text, rest))
+}
