@@ -1,5 +1,6 @@
 -- Legal histories of the served calls keep the table sound.
 use Rattle.std.proofs.Common.{◌≡◌, ◌==◌, ℕ, ◌<◌, Bool, true, false, cond, not, ◌&&◌, ◌||◌, List, [], ◌∷◌, ◌++◌, filter, map, Some, None, refl, sym, ap, ◌∙◌, subst, append_assoc, append-nil, find, arith, eq-eqb}
+use Rattle.std.specs.Prelude.{is_some}
 use Rattle.std.specs.List.{AllByRecursion, IsDistinct, list_any, list_all}
 use Rattle.std.specs.Option.{option_map, option_map_or}
 use Rattle.std.proofs.lemmas.Bool.{eqb-true}
@@ -37,7 +38,7 @@ use Rattle.serial_table.specs.Close.{close, close_one}
 use Rattle.serial_table.specs.Decide.{decide, is_served}
 use Rattle.serial_table.specs.Step.{declared_at, step}
 use Rattle.serial_table.specs.History.{start, start_workers, called, after_event, after_entry, after_all, after, IsLegalEvent, AreLegal, IsLegal, own_number, numbers_of, RisesAbove}
-use Rattle.serial_table.specs.Sound.{IsSound, have_same_id, have_same_handle, have_same_name, has_its_lease, holds_handle, may_stay, has_open, is_sound_lease, has_its_open, waits_among_living, cannot_both_hold, cannot_both_wait}
+use Rattle.serial_table.specs.Sound.{IsSound, have_same_id, have_same_handle, have_same_name, has_its_lease, holds_handle, is_leased_if_durable, may_stay, has_open, is_sound_lease, has_its_open, waits_among_living, cannot_both_hold, cannot_both_wait}
 use Rattle.serial_table.proofs.Differing.{all_filtered, all_pushed, all_weaker, distinct_none, distinct_filtered, distinct_pushed, all_true, is_among, is_below, among_more, among_last}
 use Rattle.serial_table.proofs.Settling.{settle_without_leases, and_false}
 use Rattle.serial_table.proofs.Views.{view-apply_all}
@@ -49,6 +50,7 @@ use Rattle.serial_table.proofs.Workers.{IsFirstCaller, first_caller, worker_live
 -- an open without lease, of a session 1, made by a call of this history
 record IsPlainOpen (setup : Setup) (history : List Entry) (row : OpenRow) : Type 0 where
   lease : row.lease ≡ None
+  durable : row.durable ≡ 0
   session : row.owner.session ≡ 1
   owner : row.owner.pid ≡ row.id.pid
   handle : row.handle ≡ row.id.call
@@ -71,6 +73,7 @@ record IsPlain (setup : Setup) (history : List Entry) (t : Table) : Type 0 where
 open_more : (setup : Setup) (history more : List Entry) (row : OpenRow) → IsPlainOpen setup history row → IsPlainOpen setup (history ++ more) row
 open_more setup history more row h = record {
   lease = h.lease;
+  durable = h.durable;
   session = h.session;
   owner = h.owner;
   handle = h.handle;
@@ -260,6 +263,7 @@ new_is_plain setup history worker seq number moment call reply caller file acces
     flat_map-append (own_number worker) history (entry ∷ []) ∙ ap (λ own. numbers_of worker history ++ (own ++ [])) (own_is worker seq number moment call reply) in
     record {
       lease = refl;
+      durable = refl;
       session = first.session;
       owner = refl;
       handle = refl;
@@ -345,6 +349,9 @@ plain_is_sound setup history t h = record {
   opens_have_leases = all_true (has_its_lease t) t.opens
       (all_weaker (IsPlainOpen setup history) (λ row. has_its_lease t row ≡ true)
       (λ row p. ap (λ lease. option_map_or (λ name. list_any (λ l. same_name l.name name && (l.file == row.file)) t.leases) lease true) p.lease) t.opens h.opens);
+  durable_are_leased = all_true is_leased_if_durable t.opens
+      (all_weaker (IsPlainOpen setup history) (λ row. is_leased_if_durable row ≡ true)
+          (λ row p. ap (λ seconds. (seconds == 0) || is_some row.lease) p.durable) t.opens h.opens);
   opens_may_stay = all_true (may_stay t) t.opens
       (all_weaker (IsPlainOpen setup history) (λ row. may_stay t row ≡ true)
       (λ row p. ap (λ b. b || (not (row.durable == 0) && holds_handle t row)) (plain_lives setup history t h.workers row p)) t.opens h.opens);

@@ -1,5 +1,5 @@
 -- What holds of every table that a legal history makes.
-use Rattle.std.specs.Prelude.{◌≡◌, ℕ, Bool, true, false, ◌==◌, ◌&&◌, ◌||◌, not, Option, Some, None}
+use Rattle.std.specs.Prelude.{is_some, ◌≡◌, ℕ, Bool, true, false, ◌==◌, ◌&&◌, ◌||◌, not, Option, Some, None}
 use Rattle.std.specs.List.{IsDistinct, list_any, list_all}
 use Rattle.std.specs.Option.{option_map_or}
 use Rattle.std.specs.Int.RustNames.{bit_and}
@@ -34,6 +34,10 @@ has_its_lease t open_row =
 abbrev pub holds_handle : Table → OpenRow → Bool
 holds_handle t open_row =
     option_map_or (λ name. list_any (λ lease. same_name lease.name name && (lease.file == open_row.file) && has lease.held.0 2) t.leases) open_row.lease false
+
+-- not durable, or under a lease
+abbrev pub is_leased_if_durable : OpenRow → Bool
+is_leased_if_durable open_row = (open_row.durable == 0) || is_some open_row.lease
 
 -- connected, or durable under a lease that holds HANDLE
 abbrev pub may_stay : Table → OpenRow → Bool
@@ -89,6 +93,7 @@ pub record IsSound (t : Table) : Type 0 where
   pub ids_differ : IsDistinct have_same_id t.opens
   pub handles_differ : IsDistinct have_same_handle t.opens
   pub opens_have_leases : list_all (has_its_lease t) t.opens ≡ true
+  pub durable_are_leased : list_all is_leased_if_durable t.opens ≡ true
   pub opens_may_stay : list_all (may_stay t) t.opens ≡ true
   pub leases_differ : IsDistinct have_same_name t.leases
   pub leases_have_opens : list_all (has_open t) t.leases ≡ true
