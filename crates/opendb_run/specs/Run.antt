@@ -5,11 +5,13 @@ use Rattle.sid_core.specs.declared.entry.Entry.{Entry}
 use Rattle.serial_table.specs.History.{IsLegal}
 use Rattle.serial_table.specs.Text.{text}
 use Rattle.worker_script.specs.declared.script.Script.{Script}
-use Rattle.worker_script.specs.Reading.{script}
+use Rattle.worker_script.specs.declared.error.Parse.{Parse}
+use Rattle.worker_script.specs.declared.error.Parse.TheVariants as parse
+use Rattle.worker_script.specs.Reading.{answer}
 use Rattle.worker_script.specs.Fits.{Fits}
 use Rattle.opendb_run.specs.declared.input.TheConstants.{LIMIT}
 use Rattle.opendb_run.specs.declared.status.Status.{Status}
-use Rattle.opendb_run.specs.declared.status.Status.TheVariants.{Done, Usage, TooLarge, ReadFault, WriteFault, OutOfMemory, NotBuilt}
+use Rattle.opendb_run.specs.declared.status.Status.TheVariants.{Done, Usage, BadScript, TooLarge, ReadFault, WriteFault, OutOfMemory, NotBuilt}
 use Rattle.opendb_run.specs.declared.input.InputError.TheVariants as input
 use Rattle.opendb_run.specs.Input.{TakesAll, TakesBefore}
 use Rattle.opendb_run.specs.Play.{Prints}
@@ -24,20 +26,26 @@ pub record ReadsScript (left left' : Option (List ℕ)) : Type 0 where
   pub bytes : List ℕ
   pub read : HasRead left left' bytes
   pub read_script : Script
-  pub spelled : script bytes ≡ Ok read_script
+  pub spelled : answer bytes ≡ Ok read_script
 
--- What was read is no script of built forms, and this is its first line that isn't.
+-- What was read is no script: this is its first bad line, and the least reason.
+pub record BreaksAt (left left' : Option (List ℕ)) (line reason : ℕ) : Type 0 where
+  pub bytes : List ℕ
+  pub read : HasRead left left' bytes
+  pub broken : answer bytes ≡ Err (parse.Bad line reason)
+
+-- What was read is a script, but this is its first line of a form that isn't built.
 pub record StopsAt (left left' : Option (List ℕ)) (line : ℕ) : Type 0 where
   pub bytes : List ℕ
   pub read : HasRead left left' bytes
-  pub stopped : script bytes ≡ Err line
+  pub stopped : answer bytes ≡ Err (parse.NotBuilt line)
 
 -- What was read is a script, and the sink gained exactly the text of a legal history that fits it.
 pub record HasRun (left left' written written' : Option (List ℕ)) : Type 0 where
   pub bytes : List ℕ
   pub read : HasRead left left' bytes
   pub read_script : Script
-  pub spelled : script bytes ≡ Ok read_script
+  pub spelled : answer bytes ≡ Ok read_script
   pub history : List Entry
   pub legal : IsLegal read_script.setup history
   pub fits : Fits read_script history
@@ -48,18 +56,21 @@ abbrev pub is_silent : Status → Bool
 is_silent Done = false
 is_silent WriteFault = false
 is_silent Usage = true
+is_silent BadScript = true
 is_silent TooLarge = true
 is_silent ReadFault = true
 is_silent OutOfMemory = true
 is_silent NotBuilt = true
 
-abbrev pub status_of_script : Result Script ℕ → Status
+abbrev pub status_of_script : Result Script Parse → Status
 status_of_script (Ok read_script) = Done
-status_of_script (Err line) = NotBuilt
+status_of_script (Err (parse.Bad line reason)) = BadScript
+status_of_script (Err (parse.NotBuilt line)) = NotBuilt
+status_of_script (Err parse.OutOfMemory) = OutOfMemory
 
 -- how a run of these bytes ends where nothing fails
 abbrev pub expected : List ℕ → Status
-expected bytes = if nat_lt LIMIT (length bytes) then TooLarge else status_of_script (script bytes)
+expected bytes = if nat_lt LIMIT (length bytes) then TooLarge else status_of_script (answer bytes)
 
 -- Want of memory can always come.
 abbrev pub IsExpected : Status → List ℕ → Type 0
@@ -73,6 +84,7 @@ ScriptEnded run written written' rose Done = (printed : List ℕ) × Prints run 
 ScriptEnded run written written' rose WriteFault = rose
 ScriptEnded run written written' rose OutOfMemory = written' ≡ written
 ScriptEnded run written written' rose Usage = ⊥
+ScriptEnded run written written' rose BadScript = ⊥
 ScriptEnded run written written' rose TooLarge = ⊥
 ScriptEnded run written written' rose ReadFault = ⊥
 ScriptEnded run written written' rose NotBuilt = ⊥
@@ -80,27 +92,29 @@ ScriptEnded run written written' rose NotBuilt = ⊥
 -- what was printed of these bytes
 pub record PrintsBytes (bytes : List ℕ) (written written' : Option (List ℕ)) : Type 0 where
   pub read_script : Script
-  pub spelled : script bytes ≡ Ok read_script
+  pub spelled : answer bytes ≡ Ok read_script
   pub printed : List ℕ
   pub prints : Prints read_script printed
   pub gained : Appends written written' printed
 
--- how a call ends that had these bytes, and the line that it names
-abbrev pub BytesEnded : List ℕ → Option (List ℕ) → Option (List ℕ) → Type 0 → Status → ℕ → Type 0
-BytesEnded bytes written written' rose Done line = PrintsBytes bytes written written'
-BytesEnded bytes written written' rose WriteFault line = rose × (read_script : Script) × (script bytes ≡ Ok read_script)
-BytesEnded bytes written written' rose OutOfMemory line = written' ≡ written
-BytesEnded bytes written written' rose NotBuilt line = (script bytes ≡ Err line) × (written' ≡ written)
-BytesEnded bytes written written' rose Usage line = ⊥
-BytesEnded bytes written written' rose TooLarge line = ⊥
-BytesEnded bytes written written' rose ReadFault line = ⊥
+-- how a call ends that had these bytes, and the line and the reason that it names
+abbrev pub BytesEnded : List ℕ → Option (List ℕ) → Option (List ℕ) → Type 0 → Status → ℕ → ℕ → Type 0
+BytesEnded bytes written written' rose Done line reason = PrintsBytes bytes written written'
+BytesEnded bytes written written' rose WriteFault line reason = rose × (read_script : Script) × (answer bytes ≡ Ok read_script)
+BytesEnded bytes written written' rose OutOfMemory line reason = written' ≡ written
+BytesEnded bytes written written' rose BadScript line reason = (answer bytes ≡ Err (parse.Bad line reason)) × (written' ≡ written)
+BytesEnded bytes written written' rose NotBuilt line reason = (answer bytes ≡ Err (parse.NotBuilt line)) × (written' ≡ written)
+BytesEnded bytes written written' rose Usage line reason = ⊥
+BytesEnded bytes written written' rose TooLarge line reason = ⊥
+BytesEnded bytes written written' rose ReadFault line reason = ⊥
 
 -- how a call ends that read its input; unread and rose say that a read and a write failed
-abbrev pub InputEnded : Option (List ℕ) → Option (List ℕ) → Option (List ℕ) → Option (List ℕ) → Type 0 → Type 0 → Status → ℕ → Type 0
-InputEnded left left' written written' unread rose Done line = HasRun left left' written written'
-InputEnded left left' written written' unread rose TooLarge line = TakesBefore left left' input.TooLarge × (written' ≡ written)
-InputEnded left left' written written' unread rose ReadFault line = unread × (written' ≡ written)
-InputEnded left left' written written' unread rose WriteFault line = rose × ReadsScript left left'
-InputEnded left left' written written' unread rose OutOfMemory line = written' ≡ written
-InputEnded left left' written written' unread rose NotBuilt line = StopsAt left left' line × (written' ≡ written)
-InputEnded left left' written written' unread rose Usage line = ⊥
+abbrev pub InputEnded : Option (List ℕ) → Option (List ℕ) → Option (List ℕ) → Option (List ℕ) → Type 0 → Type 0 → Status → ℕ → ℕ → Type 0
+InputEnded left left' written written' unread rose Done line reason = HasRun left left' written written'
+InputEnded left left' written written' unread rose BadScript line reason = BreaksAt left left' line reason × (written' ≡ written)
+InputEnded left left' written written' unread rose TooLarge line reason = TakesBefore left left' input.TooLarge × (written' ≡ written)
+InputEnded left left' written written' unread rose ReadFault line reason = unread × (written' ≡ written)
+InputEnded left left' written written' unread rose WriteFault line reason = rose × ReadsScript left left'
+InputEnded left left' written written' unread rose OutOfMemory line reason = written' ≡ written
+InputEnded left left' written written' unread rose NotBuilt line reason = StopsAt left left' line × (written' ≡ written)
+InputEnded left left' written written' unread rose Usage line reason = ⊥

@@ -4,12 +4,13 @@ use Rattle.std.specs.Fmt.{decimal}
 use Rattle.opendb_run.specs.declared.input.InputError.{InputError}
 use Rattle.opendb_run.specs.declared.input.InputError.TheVariants.{TooLarge as InputTooLarge, ReadFault as InputReadFault, OutOfMemory as InputOutOfMemory}
 use Rattle.opendb_run.specs.declared.status.Status.{Status}
-use Rattle.opendb_run.specs.declared.status.Status.TheVariants.{Done, Usage, TooLarge, ReadFault, WriteFault, OutOfMemory, NotBuilt}
+use Rattle.opendb_run.specs.declared.status.Status.TheVariants.{Done, Usage, BadScript, TooLarge, ReadFault, WriteFault, OutOfMemory, NotBuilt}
 
 -- the exit status
 abbrev pub code_of : Status → ℕ
 code_of Done = 0
 code_of Usage = 1
+code_of BadScript = 2
 code_of TooLarge = 3
 code_of ReadFault = 4
 code_of WriteFault = 5
@@ -22,12 +23,16 @@ status_of InputTooLarge = TooLarge
 status_of InputReadFault = ReadFault
 status_of InputOutOfMemory = OutOfMemory
 
--- the line on standard error, given the number of the line that isn't built
-abbrev pub complaint : Status → ℕ → List ℕ
-complaint Done line = []
-complaint Usage line = codes "opendb: usage: run, smbstatus or stress\n"
-complaint TooLarge line = codes "opendb: script too large\n"
-complaint ReadFault line = codes "opendb: read fault\n"
-complaint WriteFault line = codes "opendb: write fault\n"
-complaint OutOfMemory line = codes "opendb: no memory\n"
-complaint NotBuilt line = codes "opendb: line " ++ (decimal line ++ codes ": not built\n")
+abbrev pub at_line : ℕ → List ℕ
+at_line line = codes "opendb: line " ++ decimal line
+
+-- the line on standard error, given the number of the line that is bad or isn't built, and the reason why it is bad
+abbrev pub complaint : Status → ℕ → ℕ → List ℕ
+complaint Done line reason = []
+complaint Usage line reason = codes "opendb: usage: run, smbstatus or stress\n"
+complaint BadScript line reason = at_line line ++ (codes ": reason " ++ (decimal reason ++ codes "\n"))
+complaint TooLarge line reason = codes "opendb: script too large\n"
+complaint ReadFault line reason = codes "opendb: read fault\n"
+complaint WriteFault line reason = codes "opendb: write fault\n"
+complaint OutOfMemory line reason = codes "opendb: no memory\n"
+complaint NotBuilt line reason = at_line line ++ codes ": not built\n"

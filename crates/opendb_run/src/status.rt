@@ -1,8 +1,9 @@
-ghost use Rattle.std.specs.Prelude.{◌≡◌, ◌≤◌, OnOk, OnErr};
+ghost use Rattle.std.specs.Prelude.{◌≡◌, ◌≤◌, ◌++◌, codes, OnOk, OnErr};
+ghost use Rattle.std.specs.Fmt.{decimal};
 ghost use Rattle.std.specs.Io.KnownBytes.{Appends};
 ghost use Rattle.sid_core.specs.Faults.{Rose};
 ghost use Rattle.opendb_run.specs.Output.{AppendsPrefix};
-ghost use Rattle.opendb_run.specs.Status.{code_of, complaint, status_of};
+ghost use Rattle.opendb_run.specs.Status.{code_of, at_line, complaint, status_of};
 
 use crate::input::InputError;
 use crate::output::{write_all, write_decimal};
@@ -15,6 +16,8 @@ pub enum Status {
     Done,
     /// The words aren't those of a command.
     Usage,
+    /// The script breaks its format: it has a bad line.
+    BadScript,
     /// The input has more bytes than the limit.
     TooLarge,
     /// A read of the input failed.
@@ -35,6 +38,7 @@ impl Status {
         match self {
             Status::Done => 0,
             Status::Usage => 1,
+            Status::BadScript => 2,
             Status::TooLarge => 3,
             Status::ReadFault => 4,
             Status::WriteFault => 5,
@@ -56,27 +60,28 @@ impl From<InputError> for Status {
     }
 }
 
-/// Tells on `err` why the program ended. `line` is the number of the line that isn't built, and is
-/// read for that status alone. A fault of `err` cuts the text short, and nothing else comes of it.
-pub fn complain<E: Sink>(err: &mut E, status: Status, line: u32)
+/// Tells on `err` why the program ended. `line` is the number of the line that is bad or isn't built, and `reason` the reason why
+/// it is bad; they are read for those statuses alone. A fault of `err` cuts the text short, and nothing else comes of it.
+pub fn complain<E: Sink>(err: &mut E, status: Status, line: u32, reason: u32)
     ensures text { ¬ (Rose (E.faults err.old) (E.faults err.new))
-        → Appends (E.written err.old) (E.written err.new) (complaint status line) }
-    ensures prefix { AppendsPrefix (E.written err.old) (E.written err.new) (complaint status line) }
+        → Appends (E.written err.old) (E.written err.new) (complaint status line reason) }
+    ensures prefix { AppendsPrefix (E.written err.old) (E.written err.new) (complaint status line reason) }
     ensures faults { E.faults err.old ≤ E.faults err.new }
 {
-    let _ = try_complain(err, status, line);
+    let _ = try_complain(err, status, line, reason);
 }
 
-fn try_complain<E: Sink>(err: &mut E, status: Status, line: u32) -> Result<(), Failed>
+fn try_complain<E: Sink>(err: &mut E, status: Status, line: u32, reason: u32) -> Result<(), Failed>
     ensures text { OnOk result
-        (Appends (E.written err.old) (E.written err.new) (complaint status line)) }
-    ensures prefix { AppendsPrefix (E.written err.old) (E.written err.new) (complaint status line) }
+        (Appends (E.written err.old) (E.written err.new) (complaint status line reason)) }
+    ensures prefix { AppendsPrefix (E.written err.old) (E.written err.new) (complaint status line reason) }
     ensures failed { OnErr result (Rose (E.faults err.old) (E.faults err.new)) }
     ensures faults { E.faults err.old ≤ E.faults err.new }
 {
     match status {
         Status::Done => Ok(()),
         Status::Usage => write_all(err, b"opendb: usage: run, smbstatus or stress\n"),
+        Status::BadScript => complain_of_reason(err, line, reason),
         Status::TooLarge => write_all(err, b"opendb: script too large\n"),
         Status::ReadFault => write_all(err, b"opendb: read fault\n"),
         Status::WriteFault => write_all(err, b"opendb: write fault\n"),
@@ -85,15 +90,49 @@ fn try_complain<E: Sink>(err: &mut E, status: Status, line: u32) -> Result<(), F
     }
 }
 
-fn complain_of_line<E: Sink>(err: &mut E, line: u32) -> Result<(), Failed>
-    ensures text { OnOk result
-        (Appends (E.written err.old) (E.written err.new) (complaint Status.NotBuilt line)) }
-    ensures prefix { AppendsPrefix (E.written err.old) (E.written err.new)
-        (complaint Status.NotBuilt line) }
+fn write_at_line<E: Sink>(err: &mut E, line: u32) -> Result<(), Failed>
+    ensures text { OnOk result (Appends (E.written err.old) (E.written err.new) (at_line line)) }
+    ensures prefix { AppendsPrefix (E.written err.old) (E.written err.new) (at_line line) }
     ensures failed { OnErr result (Rose (E.faults err.old) (E.faults err.new)) }
     ensures faults { E.faults err.old ≤ E.faults err.new }
 {
     write_all(err, b"opendb: line ")?;
-    write_decimal(err, line)?;
+    write_decimal(err, line)
+}
+
+fn complain_of_line<E: Sink>(err: &mut E, line: u32) -> Result<(), Failed>
+    ensures text { OnOk result
+        (Appends (E.written err.old) (E.written err.new) (at_line line ++ codes ": not built\n")) }
+    ensures prefix { AppendsPrefix (E.written err.old) (E.written err.new)
+        (at_line line ++ codes ": not built\n") }
+    ensures failed { OnErr result (Rose (E.faults err.old) (E.faults err.new)) }
+    ensures faults { E.faults err.old ≤ E.faults err.new }
+{
+    write_at_line(err, line)?;
     write_all(err, b": not built\n")
+}
+
+fn write_reason<E: Sink>(err: &mut E, reason: u32) -> Result<(), Failed>
+    ensures text { OnOk result (Appends (E.written err.old) (E.written err.new)
+        (codes ": reason " ++ (decimal reason ++ codes "\n"))) }
+    ensures prefix { AppendsPrefix (E.written err.old) (E.written err.new)
+        (codes ": reason " ++ (decimal reason ++ codes "\n")) }
+    ensures failed { OnErr result (Rose (E.faults err.old) (E.faults err.new)) }
+    ensures faults { E.faults err.old ≤ E.faults err.new }
+{
+    write_all(err, b": reason ")?;
+    write_decimal(err, reason)?;
+    write_all(err, b"\n")
+}
+
+fn complain_of_reason<E: Sink>(err: &mut E, line: u32, reason: u32) -> Result<(), Failed>
+    ensures text { OnOk result (Appends (E.written err.old) (E.written err.new)
+        (at_line line ++ (codes ": reason " ++ (decimal reason ++ codes "\n")))) }
+    ensures prefix { AppendsPrefix (E.written err.old) (E.written err.new)
+        (at_line line ++ (codes ": reason " ++ (decimal reason ++ codes "\n"))) }
+    ensures failed { OnErr result (Rose (E.faults err.old) (E.faults err.new)) }
+    ensures faults { E.faults err.old ≤ E.faults err.new }
+{
+    write_at_line(err, line)?;
+    write_reason(err, reason)
 }

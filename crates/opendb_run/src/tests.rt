@@ -76,6 +76,7 @@ fn each_status_has_its_number_and_text(rt: HostRuntime) -> Result<(), Fail> {
             7,
             "opendb: usage: run, smbstatus or stress\n",
         ),
+        (Status::BadScript, 2, 7, "opendb: line 7: reason 22\n"),
         (Status::TooLarge, 3, 7, "opendb: script too large\n"),
         (Status::ReadFault, 4, 7, "opendb: read fault\n"),
         (Status::WriteFault, 5, 7, "opendb: write fault\n"),
@@ -89,7 +90,7 @@ fn each_status_has_its_number_and_text(rt: HostRuntime) -> Result<(), Fail> {
         ),
     ] {
         let mut page = Page::new(rt.alloc(), 99, 5, Vec::new(rt.alloc()))?;
-        complain(&mut page, status, line);
+        complain(&mut page, status, line, 22);
         assert_eq!(rt; status.code(), code, "of {status:?}");
         assert_eq!(rt; page.bytes(), text.as_bytes());
     }
@@ -279,12 +280,12 @@ fn runs_scripts(rt: HostRuntime) -> Result<(), Fail> {
             b"",
             b"opendb: line 9: not built\n",
         ),
-        (b"\0", Status::NotBuilt, b"", b"opendb: line 5: not built\n"),
+        (b"\0", Status::BadScript, b"", b"opendb: line 5: reason 1\n"),
         (
             b"phase 000000000000000000000\n",
-            Status::NotBuilt,
+            Status::BadScript,
             b"",
-            b"opendb: line 5: not built\n",
+            b"opendb: line 5: reason 4\n",
         ),
         (
             b"phase 0\n2 open 1 0x3 rwd\n",

@@ -6,7 +6,7 @@ ghost use Rattle.opendb_run.specs.Words.{command};
 ghost use Rattle.opendb_run.specs.Status.{complaint};
 ghost use Rattle.opendb_run.specs.Input.{TakesBefore};
 ghost use Rattle.opendb_run.specs.declared.input.TheConstants.{LIMIT};
-ghost use Rattle.opendb_run.specs.Run.{HasRun, ReadsScript, StopsAt, IsExpected, is_silent, ScriptEnded, BytesEnded, InputEnded};
+ghost use Rattle.opendb_run.specs.Run.{HasRun, ReadsScript, BreaksAt, StopsAt, IsExpected, is_silent, ScriptEnded, BytesEnded, InputEnded};
 
 use crate::input::{InputError, read_all};
 use crate::output::write_all;
@@ -17,11 +17,12 @@ use sid_core::{Gate, Sink, Source};
 use std::alloc::Global;
 use worker_script::{Parse, Script, parse};
 
-/// How a call ended, and the line that it names.
+/// How a call ended, the line that it names and the reason that it gives.
 #[derive(Clone, Copy)]
 struct Ending {
     status: Status,
     line: u32,
+    reason: u32,
 }
 
 /// Runs a script, and prints its history at its end.
@@ -42,21 +43,29 @@ fn run_script<O: Sink, G: Gate>(alloc: Global, script: &Script, out: &mut O, gat
 /// Runs the script that the bytes spell.
 fn run_bytes<O: Sink, G: Gate>(alloc: Global, bytes: &[u8], out: &mut O, gate: &G) -> Ending
     requires { length bytes.now ≤ LIMIT }
-    ensures ended { BytesEnded bytes.now (O.written out.old) (O.written out.new) (Rose (O.faults out.old) (O.faults out.new)) result.status result.line }
+    ensures ended { BytesEnded bytes.now (O.written out.old) (O.written out.new) (Rose (O.faults out.old) (O.faults out.new)) result.status result.line result.reason }
     ensures faults { O.faults out.old ≤ O.faults out.new }
 {
     match parse(alloc, bytes) {
         Ok(script) => Ending {
             status: run_script(alloc, &script, out, gate),
             line: 0,
+            reason: 0,
+        },
+        Err(Parse::Bad { line, reason }) => Ending {
+            status: Status::BadScript,
+            line,
+            reason,
         },
         Err(Parse::NotBuilt { line }) => Ending {
             status: Status::NotBuilt,
             line,
+            reason: 0,
         },
         Err(Parse::OutOfMemory) => Ending {
             status: Status::OutOfMemory,
             line: 0,
+            reason: 0,
         },
     }
 }
@@ -69,7 +78,7 @@ fn run_input<S: Source, O: Sink, G: Gate>(
     gate: &G,
 ) -> Ending
     ensures ended { InputEnded (S.left source.old) (S.left source.new) (O.written out.old) (O.written out.new)
-        (Rose (S.faults source.old) (S.faults source.new)) (Rose (O.faults out.old) (O.faults out.new)) result.status result.line }
+        (Rose (S.faults source.old) (S.faults source.new)) (Rose (O.faults out.old) (O.faults out.new)) result.status result.line result.reason }
     ensures source_faults { S.faults source.old ≤ S.faults source.new }
     ensures out_faults { O.faults out.old ≤ O.faults out.new }
 {
@@ -78,6 +87,7 @@ fn run_input<S: Source, O: Sink, G: Gate>(
         Err(error) => Ending {
             status: Status::from(error),
             line: 0,
+            reason: 0,
         },
     }
 }
@@ -95,6 +105,8 @@ pub fn run<S: Source, O: Sink, E: Sink, G: Gate>(
     // The source was read to its end, its bytes spell a script, and `out` gained the text of a legal history that fits it.
     ensures done { result ≡ Status.Done → HasRun (S.left source.old) (S.left source.new) (O.written out.old) (O.written out.new) }
     ensures usage { (result ≡ Status.Usage) ↔ (command (map string_bytes words.now) ≡ None) }
+    ensures bad_script { result ≡ Status.BadScript → (line : ℕ) × (reason : ℕ)
+        × BreaksAt (S.left source.old) (S.left source.new) line reason }
     ensures not_built { result ≡ Status.NotBuilt → (line : ℕ) × StopsAt (S.left source.old) (S.left source.new) line }
     ensures too_large { result ≡ Status.TooLarge → TakesBefore (S.left source.old) (S.left source.new) InputError.TooLarge }
     ensures read_fault { result ≡ Status.ReadFault → Rose (S.faults source.old) (S.faults source.new) }
@@ -104,9 +116,10 @@ pub fn run<S: Source, O: Sink, E: Sink, G: Gate>(
     ensures complete { command (map string_bytes words.now) ≡ Some Command.Run → IfSome (S.left source.old) (λ bytes.
         (Rose (S.faults source.old) (S.faults source.new) → ⊥) → (Rose (O.faults out.old) (O.faults out.new) → ⊥) → IsExpected result bytes) }
 
-    // Where no write to `err` failed, it gained the status's text, which names the line that isn't built.
-    ensures complaint { (Rose (E.faults err.old) (E.faults err.new) → ⊥) → (line : ℕ)
-        × Appends (E.written err.old) (E.written err.new) (complaint result line)
+    // Where no write to `err` failed, it gained the status's text, which names the line and the reason.
+    ensures complaint { (Rose (E.faults err.old) (E.faults err.new) → ⊥) → (line : ℕ) × (reason : ℕ)
+        × Appends (E.written err.old) (E.written err.new) (complaint result line reason)
+        × (result ≡ Status.BadScript → BreaksAt (S.left source.old) (S.left source.new) line reason)
         × (result ≡ Status.NotBuilt → StopsAt (S.left source.old) (S.left source.new) line) }
 
     // Nothing is printed with the other statuses.
@@ -117,10 +130,10 @@ pub fn run<S: Source, O: Sink, E: Sink, G: Gate>(
     ensures err_faults { E.faults err.old ≤ E.faults err.new }
 {
     let Some(Command::Run) = Command::from_words(words) else {
-        complain(err, Status::Usage, 0);
+        complain(err, Status::Usage, 0, 0);
         return Status::Usage;
     };
     let ending = run_input(alloc, source, out, gate);
-    complain(err, ending.status, ending.line);
+    complain(err, ending.status, ending.line, ending.reason);
     ending.status
 }

@@ -29,7 +29,7 @@ pub planned-more : (phases : List Phase) (current : Option Phase) (planned : Pla
     → length (all_calls (phases ++ option_to_list (with_planned current planned))) ≡ length (all_calls (phases ++ option_to_list current)) + 1
 planned-more phases current planned some = rw (all_calls-push phases current planned some) (simp length-append)
 
-own_number-own : (worker : ℕ) (planned : Planned) → planned.worker ≡ worker → own_number worker planned ≡ planned.number ∷ []
+pub own_number-own : (worker : ℕ) (planned : Planned) → planned.worker ≡ worker → own_number worker planned ≡ planned.number ∷ []
 own_number-own worker planned own = grind (arith, nat_tests)
 
 -- It is its worker's last.
@@ -44,7 +44,7 @@ pub numbers-more : (worker : ℕ) (phases : List Phase) (current : Option Phase)
     ≡ length (numbers_of worker (all_calls (phases ++ option_to_list current))) + 1
 numbers-more worker phases current planned some own = rw (numbers-push worker phases current planned some own) (simp length-append)
 
-own_number-other : (worker : ℕ) (planned : Planned) → eqb planned.worker worker ≡ false → own_number worker planned ≡ []
+pub own_number-other : (worker : ℕ) (planned : Planned) → eqb planned.worker worker ≡ false → own_number worker planned ≡ []
 own_number-other worker planned other = rw other refl
 
 -- The calls of other workers stay.

@@ -3,6 +3,8 @@ pub mod Values
 pub mod Counts
 pub mod Lists
 pub mod Facts
+pub mod Seats
+pub mod Planning
 pub mod Sound
 pub mod SoundCalls
 pub mod SoundText

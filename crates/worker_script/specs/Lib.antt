@@ -2,9 +2,12 @@ pub mod Script
 pub mod Fits
 pub mod Text
 pub mod Values
+pub mod Words
+pub mod Options
 pub mod Lines
 pub mod Reading
 pub mod Search
+pub mod Calls
 pub mod Reader
 pub mod Numbers
 pub mod Answer

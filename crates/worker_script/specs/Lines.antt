@@ -1,9 +1,7 @@
 -- What each line of a script does, and what makes it bad.
-use Rattle.std.specs.Prelude.{ℕ, ◌+◌, ◌-◌, ◌^◌, Bool, false, not, cond, ◌==◌, ◌&&◌, nat_le, nat_lt, List, [], ◌∷◌, ◌++◌, length, Option, Some, None, is_some, is_none, unwrap_or, Result, Ok, Err}
+use Rattle.std.specs.Prelude.{ℕ, ◌+◌, ◌-◌, ◌^◌, Bool, not, cond, ◌==◌, ◌&&◌, nat_le, nat_lt, List, [], ◌∷◌, ◌++◌, length, Option, Some, None, is_some, Result, Ok, Err}
 use Rattle.std.specs.List.{list_any}
 use Rattle.std.specs.Option.{option_to_list}
-use Rattle.sid_core.specs.declared.call.Call.{Call}
-use Rattle.sid_core.specs.declared.call.Call.TheVariants.{OpenFile, Close}
 use Rattle.sid_core.specs.declared.setup.WorkerInfo.{WorkerInfo}
 use Rattle.sid_core.specs.declared.setup.FileInfo.{FileInfo}
 use Rattle.worker_script.specs.declared.script.Planned.{Planned}
@@ -11,7 +9,7 @@ use Rattle.worker_script.specs.declared.script.Phase.{Phase}
 use Rattle.worker_script.specs.declared.script.Script.{Script}
 use Rattle.worker_script.specs.Script.{all_calls, numbers_of}
 use Rattle.worker_script.specs.Text.{token}
-use Rattle.worker_script.specs.Values.{value, is_number, is_u32, is_u64, is_short, access, share}
+use Rattle.worker_script.specs.Values.{value, is_number, is_u32, is_u64, is_short}
 
 -- What the lines so far say: what they declare, the phases that are over, and the one that calls go to.
 pub record Draft : Type 0 where
@@ -118,45 +116,6 @@ phase_line draft ts =
 abbrev pub is_declared : {X : Type 0} → List X → ℕ → Bool
 is_declared declared number = nat_le 1 number && nat_le number (length declared)
 
--- what makes any call line bad, of this worker
-abbrev pub caller_faults : Draft → ℕ → List (ℕ × Bool)
-caller_faults draft worker =
-    (10, nat_le 20000 (length (planned_in draft)))
-    ∷ (16, is_none draft.current)
-    ∷ (17, not (is_declared draft.workers worker))
-    ∷ []
-
--- Calls of other workers than the first aren't built.
-abbrev pub other_caller : ℕ → ℕ × Bool
-other_caller worker = (25, not (worker == 1))
-
--- `W open F ACCESS SHARE`
-unfoldable pub open_fault : Draft → List (List ℕ) → Option ℕ
-open_fault draft ts = first_fault (
-    (3, not (length ts == 5))
-    ∷ (4, not (is_u32 (token 0 ts) && is_u32 (token 2 ts)))
-    ∷ caller_faults draft (value (token 0 ts))
-    ++ (19, not (is_declared draft.files (value (token 2 ts))))
-    ∷ (20, is_none (access (token 3 ts)))
-    ∷ (21, is_none (share (token 4 ts)))
-    ∷ other_caller (value (token 0 ts))
-    ∷ [])
-
-abbrev pub open_call : List (List ℕ) → Call
-open_call ts = OpenFile (value (token 2 ts)) (record { 0 = unwrap_or (access (token 3 ts)) 0 }) (record { 0 = unwrap_or (share (token 4 ts)) 0 }) None 0 false
-
--- `W close HANDLE`
-unfoldable pub close_fault : Draft → List (List ℕ) → Option ℕ
-close_fault draft ts = first_fault (
-    (3, not (length ts == 3))
-    ∷ (4, not (is_u32 (token 0 ts) && is_u32 (token 2 ts)))
-    ∷ caller_faults draft (value (token 0 ts))
-    ++ other_caller (value (token 0 ts))
-    ∷ [])
-
-abbrev pub close_call : List (List ℕ) → Call
-close_call ts = Close (value (token 2 ts))
-
 -- a call as the last of its phase, and the next of its worker
 abbrev pub with_planned : Option Phase → Planned → Option Phase
 with_planned None planned = None
@@ -164,15 +123,3 @@ with_planned (Some phase) planned = Some (record phase { calls = phase.calls ++ 
 
 abbrev pub next_number : Draft → ℕ → ℕ
 next_number draft worker = length (numbers_of worker (planned_in draft)) + 1
-
-abbrev pub planned_of : Draft → ℕ → Call → Planned
-planned_of draft worker call = record { worker = worker; number = next_number draft worker; call = call; stop = None }
-
-abbrev pub with_call : Draft → ℕ → Call → Draft
-with_call draft worker call = record draft { current = with_planned draft.current (planned_of draft worker call) }
-
-unfoldable pub open_line : Draft → List (List ℕ) → Result Draft ℕ
-open_line draft ts = checked (open_fault draft ts) (with_call draft (value (token 0 ts)) (open_call ts))
-
-unfoldable pub close_line : Draft → List (List ℕ) → Result Draft ℕ
-close_line draft ts = checked (close_fault draft ts) (with_call draft (value (token 0 ts)) (close_call ts))

@@ -1,14 +1,17 @@
 -- What a reader keeps of the lines so far.
-use Rattle.std.specs.Prelude.{◌≡◌, ℕ, ◌≤◌, length, Option, Some, None, Result, Ok, Err}
+use Rattle.std.specs.Prelude.{◌≡◌, ℕ, ◌+◌, ◌<◌, ◌≤◌, true, false, List, [], length, slice_index_or, Option, Some, None, is_none, Result, Ok, Err}
 use Rattle.std.specs.declared.cmp.Ordering.{Ordering}
 use Rattle.std.specs.List.{list_any}
 use Rattle.std.specs.BTreeSet.{contains}
 use Rattle.std.specs.Ordering.{nat_cmp, ordering_then}
 use Rattle.worker_script.specs.declared.fault.Fault.{Fault}
 use Rattle.worker_script.specs.declared.fault.Fault.TheVariants.{Bad, NoMemory}
+use Rattle.worker_script.specs.declared.script.Planned.{Planned}
+use Rattle.worker_script.specs.declared.reader.Seat.{Seat}
 use Rattle.worker_script.specs.declared.reader.Reader.{Reader}
 use Rattle.worker_script.specs.Lines.{Draft, planned_in, is_place}
 use Rattle.worker_script.specs.Script.{numbers_of}
+use Rattle.worker_script.specs.Calls.{statuses_in, has_stopped}
 
 abbrev pub draft_of : Reader → Draft
 draft_of reader = record { workers = reader.workers; files = reader.files; phases = reader.phases; current = reader.current }
@@ -17,16 +20,27 @@ draft_of reader = record { workers = reader.workers; files = reader.files; phase
 abbrev pub place_cmp : ℕ × ℕ → ℕ × ℕ → Ordering
 place_cmp a b = ordering_then (nat_cmp a.0 b.0) (nat_cmp a.1 b.1)
 
+-- what is planned for a worker: how many calls, and whether it dies in one
+abbrev pub seat_in : List Planned → ℕ → Seat
+seat_in calls worker = record { made = length (numbers_of worker calls); stopped = has_stopped worker calls }
+
+abbrev pub no_seat : Seat
+no_seat = record { made = 0; stopped = false }
+
 -- Beside what the lines say: where the files are, and how many calls there are.
 pub record IsReader (reader : Reader) : Type 0 where
   pub few_workers : length reader.workers ≤ 64
   pub few_files : length reader.files ≤ 10000
   pub few_phases : length reader.phases ≤ 10000
+  pub begun : is_none reader.current ≡ true → reader.phases ≡ []
   pub places : (place : ℕ × ℕ) → contains place_cmp reader.places place ≡ list_any (is_place place.0 place.1) reader.files
   pub calls : reader.calls ≡ length (planned_in (draft_of reader))
   pub few_calls : reader.calls ≤ 20000
-  pub made : reader.made ≡ length (numbers_of 1 (planned_in (draft_of reader)))
-  pub few_made : reader.made ≤ reader.calls
+  pub statuses : reader.statuses ≡ statuses_in (planned_in (draft_of reader))
+  pub few_statuses : reader.statuses ≤ reader.calls
+  pub seats : length reader.seats.items ≡ length reader.workers
+  pub each_seat : (i : ℕ) → i < length reader.seats.items
+      → slice_index_or reader.seats.items i no_seat ≡ seat_in (planned_in (draft_of reader)) (i + 1)
 
 -- Which fault was found, or what the line's numbers are.
 abbrev pub Finds : {X : Type 0} → Option ℕ → X → Result X ℕ → Type 0

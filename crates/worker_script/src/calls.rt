@@ -1,166 +1,194 @@
-ghost use Rattle.std.specs.Prelude.{◌≡◌, ◌<◌, ◌&&◌, cond, Some, None, IfOk, OnOk, IsSome};
+ghost use Rattle.std.specs.Prelude.{◌≡◌, ◌<◌, ◌≤◌, Some, OnOk, IfOk, IsSome, IsTrue, true, false, length};
 ghost use Rattle.worker_script.specs.Text.{tokens, token};
 ghost use Rattle.worker_script.specs.Values.{value, is_u32};
-ghost use Rattle.worker_script.specs.Lines.{first_fault, caller_faults, with_call, open_fault, open_call, open_line, close_fault, close_call, close_line};
+ghost use Rattle.worker_script.specs.Lines.{is_declared, planned_in};
+ghost use Rattle.worker_script.specs.Calls.{are_numbers, wrong_number, names_no_worker, has_stopped, planned_stop, head_fault, open_fault, tail_fault, known_fault, call_of, call_length, good_call, call_fault, call_line};
+ghost use Rattle.worker_script.specs.Words.{word_of};
 ghost use Rattle.worker_script.specs.Reader.{draft_of, IsReader, Finds, Reads};
-ghost use Rattle.worker_script.specs.Numbers.{open_numbers, close_numbers};
 
 use crate::access::{access, share};
 use crate::fault::Fault;
 use crate::number::number_u32;
-use crate::reader::{Reader, push_planned};
-use crate::script::Planned;
-use crate::text::{count_tokens, token_at};
-use sid_core::{Access, Call, Share};
+use crate::reader::Reader;
+use crate::shape::{call_length, has_stop, is_status, last_token, wrong_length, wrong_number};
+use crate::spelled::{call_of, u32_at};
+use crate::text::token_at;
+use crate::word::{Word, stop_of, word_of};
+use sid_core::{Call, Point};
 
-/// The numbers of a line `W close HANDLE`.
-#[derive(Clone, Copy)]
-pub(crate) struct CloseNumbers {
-    pub worker: u32,
-    pub handle: u32,
-}
-
-/// The numbers of a line `W open F ACCESS SHARE`.
-#[derive(Clone, Copy)]
-pub(crate) struct OpenNumbers {
-    pub worker: u32,
-    pub file: u32,
-    pub access: u32,
-    pub share: u32,
-}
-
-// The numbers at the first and the third place of a call line.
-fn close_numbers(line: &[u8]) -> Option<CloseNumbers>
-    ensures { let ts = tokens line.now in
-        result ≡ cond (is_u32 (token 0 ts) && is_u32 (token 2 ts)) (Some (close_numbers ts)) None }
+#[tactic(auto, unfolding(crate::specs::Calls::has_stop))]
+fn planned_stop(line: &[u8]) -> Option<Point>
+    ensures { result ≡ planned_stop (tokens line.now) }
 {
-    Some(CloseNumbers {
-        worker: number_u32(token_at(0, line))?,
-        handle: number_u32(token_at(2, line))?,
-    })
+    if has_stop(line) {
+        stop_of(last_token(line))
+    } else {
+        None
+    }
 }
 
 impl Reader {
-    // What makes any call line of this worker bad.
-    fn caller_fault(&self, worker: u32) -> Result<(), u32>
+    fn has_worker(&self, worker: u32) -> bool
+        ensures { result ≡ is_declared self.now.workers worker }
+    {
+        1 <= worker && worker as usize <= self.workers.len()
+    }
+
+    fn has_file(&self, file: u32) -> bool
+        ensures { result ≡ is_declared self.now.files file }
+    {
+        1 <= file && file as usize <= self.files.len()
+    }
+
+    // Whether a `reconnect` line names a worker that isn't declared.
+    fn names_no_worker(&self, word: Option<Word>, line: &[u8]) -> bool
+        requires { wrong_number word (tokens line.now) ≡ false }
+        ensures { result ≡ names_no_worker word (draft_of self.now) (tokens line.now) }
+    {
+        match word {
+            Some(Word::Reconnect) => !self.has_worker(u32_at(2, line)),
+            _ => false,
+        }
+    }
+
+    // What makes any call line bad, or its worker.
+    #[tactic(auto, unfolding(crate::specs::Calls::head_fault))]
+    fn head_fault(&self, word: Option<Word>, count: usize, line: &[u8]) -> Result<u32, u32>
         requires { IsReader self.now }
-        ensures fault { Finds (first_fault (caller_faults (draft_of self.now) worker)) tt result }
+        ensures fault { Finds (head_fault (draft_of self.now) word count (tokens line.now)) (value (token 0 (tokens line.now))) result }
         ensures room { OnOk result (self.now.calls < 20000) }
         ensures phase { OnOk result (IsSome self.now.current) }
+        ensures some { IfOk result (λ worker. 1 ≤ worker) }
+        ensures declared { IfOk result (λ worker. worker ≤ length self.now.workers) }
+        ensures numbers { OnOk result (wrong_number word (tokens line.now) ≡ false) }
     {
+        if wrong_length(word, count) {
+            return Err(3);
+        }
+        let Some(worker) = number_u32(token_at(0, line)) else {
+            return Err(4);
+        };
+        if wrong_number(word, line) {
+            return Err(4);
+        }
         if 20_000 <= self.calls {
             return Err(10);
+        }
+        if is_status(word) && 100 <= self.statuses {
+            return Err(11);
         }
         if self.current.is_none() {
             return Err(16);
         }
-        if !(1 <= worker && worker as usize <= self.workers.len()) {
+        if !self.has_worker(worker) || self.names_no_worker(word, line) {
             return Err(17);
         }
-        Ok(())
+        if word.is_none() {
+            return Err(18);
+        }
+        Ok(worker)
     }
 
-    // What makes an open line bad, or its numbers.
-    #[tactic(auto, unfolding(crate::specs::Lines::open_fault))]
-    fn open_fault(&self, line: &[u8]) -> Result<OpenNumbers, u32>
-        requires { IsReader self.now }
-        ensures fault { Finds (open_fault (draft_of self.now) (tokens line.now)) (open_numbers (tokens line.now)) result }
-        ensures room { OnOk result (self.now.calls < 20000) }
-        ensures phase { OnOk result (IsSome self.now.current) }
-        ensures first { IfOk result (λ numbers. numbers.worker ≡ 1) }
+    // What makes an open line bad.
+    #[tactic(auto, unfolding(crate::specs::Calls::open_fault))]
+    fn open_fault(&self, word: Word, line: &[u8]) -> Result<(), u32>
+        requires { are_numbers word (tokens line.now) ≡ true }
+        ensures { Finds (open_fault (draft_of self.now) word (tokens line.now)) tt result }
     {
-        if count_tokens(line) != 5 {
-            return Err(3);
+        match word {
+            Word::Open => self.open_line_fault(line),
+            _ => Ok(()),
         }
-        let Some(numbers) = close_numbers(line) else {
-            return Err(4);
-        };
-        self.caller_fault(numbers.worker)?;
-        if !(1 <= numbers.handle && numbers.handle as usize <= self.files.len()) {
+    }
+
+    #[tactic(auto, unfolding(crate::specs::Calls::open_fault))]
+    fn open_line_fault(&self, line: &[u8]) -> Result<(), u32>
+        requires { is_u32 (token 2 (tokens line.now)) ≡ true }
+        ensures { Finds (open_fault (draft_of self.now) Word.Open (tokens line.now)) tt result }
+    {
+        if !self.has_file(u32_at(2, line)) {
             return Err(19);
         }
-        let Some(access) = access(token_at(3, line)) else {
+        if access(token_at(3, line)).is_none() {
             return Err(20);
-        };
-        let Some(share) = share(token_at(4, line)) else {
+        }
+        if share(token_at(4, line)).is_none() {
             return Err(21);
-        };
-        if numbers.worker != 1 {
-            return Err(25);
         }
-        Ok(OpenNumbers {
-            worker: numbers.worker,
-            file: numbers.handle,
-            access,
-            share,
-        })
-    }
-
-    // What makes a close line bad, or its numbers.
-    #[tactic(auto, unfolding(crate::specs::Lines::close_fault))]
-    fn close_fault(&self, line: &[u8]) -> Result<CloseNumbers, u32>
-        requires { IsReader self.now }
-        ensures fault { Finds (close_fault (draft_of self.now) (tokens line.now)) (close_numbers (tokens line.now)) result }
-        ensures room { OnOk result (self.now.calls < 20000) }
-        ensures phase { OnOk result (IsSome self.now.current) }
-        ensures first { IfOk result (λ numbers. numbers.worker ≡ 1) }
-    {
-        if count_tokens(line) != 3 {
-            return Err(3);
-        }
-        let Some(numbers) = close_numbers(line) else {
-            return Err(4);
-        };
-        self.caller_fault(numbers.worker)?;
-        if numbers.worker != 1 {
-            return Err(25);
-        }
-        Ok(numbers)
-    }
-
-    // Adds the next call of the first worker.
-    fn plan(&mut self, call: Call) -> Result<(), Fault>
-        requires reader { IsReader self.old }
-        requires room { self.old.calls < 20000 }
-        requires phase { IsSome self.old.current }
-        ensures { Reads (Ok (with_call (draft_of self.old) 1 call)) self.new result }
-    {
-        let planned = Planned {
-            worker: 1,
-            number: self.made + 1,
-            call,
-            stop: None,
-        };
-        push_planned(&mut self.current, planned)?;
-        self.calls += 1;
-        self.made += 1;
         Ok(())
     }
 
-    #[tactic(auto, unfolding(crate::specs::Lines::open_line))]
-    pub fn open_line(&mut self, line: &[u8]) -> Result<(), Fault>
-        requires { IsReader self.old }
-        ensures { Reads (open_line (draft_of self.old) (tokens line.now)) self.new result }
+    // What else makes a call line bad, or its call.
+    #[tactic(auto, unfolding(crate::specs::Calls::tail_fault))]
+    fn tail_fault(&self, word: Word, worker: u32, count: usize, line: &[u8]) -> Result<Call, u32>
+        requires reader { IsReader self.now }
+        requires numbers { are_numbers word (tokens line.now) ≡ true }
+        requires worker { worker ≡ value (token 0 (tokens line.now)) }
+        requires some { 1 ≤ worker }
+        requires declared { worker ≤ length self.now.workers }
+        ensures { Finds (tail_fault (draft_of self.now) word count (tokens line.now)) (good_call (Some word) count (tokens line.now)) result }
     {
-        let numbers = self.open_fault(line)?;
-        self.plan(Call::OpenFile {
-            file: numbers.file,
-            access: Access(numbers.access),
-            share: Share(numbers.share),
-            lease: None,
-            durable: 0,
-            overwrite: false,
-        })
+        let Some(call) = call_of(word, count, line) else {
+            return Err(22);
+        };
+        if self.has_stopped(worker) {
+            return Err(23);
+        }
+        if has_stop(line) && stop_of(last_token(line)).is_none() {
+            return Err(24);
+        }
+        Ok(call)
     }
 
-    #[tactic(auto, unfolding(crate::specs::Lines::close_line))]
-    pub fn close_line(&mut self, line: &[u8]) -> Result<(), Fault>
-        requires { IsReader self.old }
-        ensures { Reads (close_line (draft_of self.old) (tokens line.now)) self.new result }
+    // What makes a call line bad whose word may be known, or its call.
+    fn known_fault(
+        &self,
+        word: Option<Word>,
+        worker: u32,
+        count: usize,
+        line: &[u8],
+    ) -> Result<Call, u32>
+        requires reader { IsReader self.now }
+        requires numbers { wrong_number word (tokens line.now) ≡ false }
+        requires worker { worker ≡ value (token 0 (tokens line.now)) }
+        requires some { 1 ≤ worker }
+        requires declared { worker ≤ length self.now.workers }
+        ensures { Finds (known_fault word (draft_of self.now) count (tokens line.now)) (good_call word count (tokens line.now)) result }
     {
-        let numbers = self.close_fault(line)?;
-        self.plan(Call::Close {
-            handle: numbers.handle,
-        })
+        match word {
+            None => Ok(Call::Recv),
+            Some(word) => {
+                self.open_fault(word, line)?;
+                self.tail_fault(word, worker, count, line)
+            }
+        }
+    }
+
+    // What makes a call line bad, or its worker and its call.
+    #[tactic(auto, unfolding(crate::specs::Calls::call_fault))]
+    fn call_fault(&self, line: &[u8]) -> Result<(u32, Call), u32>
+        requires { IsReader self.now }
+        ensures fault { let ts = tokens line.now in
+            Finds (call_fault (draft_of self.now) ts) (value (token 0 ts), good_call (word_of (token 1 ts)) (call_length ts) ts) result }
+        ensures room { OnOk result (self.now.calls < 20000) }
+        ensures phase { OnOk result (IsSome self.now.current) }
+        ensures some { IfOk result (λ found. 1 ≤ found.0) }
+        ensures declared { IfOk result (λ found. found.0 ≤ length self.now.workers) }
+    {
+        let count = call_length(line);
+        let word = word_of(token_at(1, line));
+        let worker = self.head_fault(word, count, line)?;
+        let call = self.known_fault(word, worker, count, line)?;
+        Ok((worker, call))
+    }
+
+    /// Takes a call line.
+    #[tactic(auto, unfolding(crate::specs::Calls::call_line))]
+    pub fn call_line(&mut self, line: &[u8]) -> Result<(), Fault>
+        requires { IsReader self.old }
+        ensures { Reads (call_line (draft_of self.old) (tokens line.now)) self.new result }
+    {
+        let (worker, call) = self.call_fault(line)?;
+        self.plan(worker, call, planned_stop(line))
     }
 }

@@ -7,7 +7,9 @@ use std::fmt;
 /// Why a text isn't read as a script.
 #[derive(Clone, Copy, Debug, PartialEq, Eq)]
 pub enum Parse {
-    /// The first line that can't be run, counted from 1. Either it is no line of a script, or it is of a form that isn't built.
+    /// The first bad line, counted from 1, and the least reason for which it is bad.
+    Bad { line: u32, reason: u32 },
+    /// The text is a script, and this is its first line of a form that isn't built.
     NotBuilt { line: u32 },
     OutOfMemory,
 }
@@ -15,6 +17,7 @@ pub enum Parse {
 impl fmt::Display for Parse {
     fn fmt<W: fmt::Write>(&self, f: &mut fmt::Formatter<W>) -> fmt::Result {
         match self {
+            Parse::Bad { line, reason } => write!(f, "line {line}: reason {reason}"),
             Parse::NotBuilt { line } => write!(f, "line {line}: not built"),
             Parse::OutOfMemory => f.write_str("out of memory"),
         }

@@ -2,16 +2,21 @@
 #![tactic(auto)]
 
 mod access;
+mod asked;
 mod calls;
 mod error;
 mod fault;
 mod file;
 mod number;
+mod options;
 mod parsing;
 mod phase;
 mod reader;
 mod script;
+mod shape;
+mod spelled;
 mod text;
+mod word;
 mod worker;
 
 pub use error::Parse;

@@ -2,7 +2,8 @@ ghost use Rattle.std.specs.Prelude.{◌≡◌, ◌≤◌, ◌^◌, ◌-◌, cond
 ghost use Rattle.std.specs.List.{list_all};
 ghost use Rattle.worker_script.specs.Values.{value, is_digit, is_numeral, is_number, is_u32, is_u64};
 
-fn are_digits(token: &[u8]) -> bool
+/// Whether a token is made of digits alone.
+pub(crate) fn are_digits(token: &[u8]) -> bool
     ensures { result ≡ list_all is_digit token.now }
 {
     token.iter().all(|b| b'0' <= *b && *b <= b'9')

@@ -1,34 +1,21 @@
-ghost use Rattle.std.specs.Prelude.{◌≡◌, ◌≤◌, IfOk, length};
+ghost use Rattle.std.specs.Prelude.{◌≡◌, ◌≤◌, IfOk, Some, None, length, if◌then◌else◌};
 ghost use Rattle.worker_script.specs.Text.{tokens};
 ghost use Rattle.worker_script.specs.Lines.{script_of};
 ghost use Rattle.worker_script.specs.Script.{IsScript};
 ghost use Rattle.worker_script.specs.Reader.{draft_of, IsReader, Reads};
-ghost use Rattle.worker_script.specs.Reading.{call_line, word_line, read_line, script};
-ghost use Rattle.worker_script.specs.Answer.{Parses, at_line};
+ghost use Rattle.worker_script.specs.Reading.{word_line, read_line, is_built, answer};
+ghost use Rattle.worker_script.specs.Answer.{Parses, at_line, earlier};
 
 use crate::error::Parse;
 use crate::fault::Fault;
+use crate::number::are_digits;
 use crate::phase::push_phase;
 use crate::reader::Reader;
 use crate::script::Script;
+use crate::shape::is_built_call;
 use crate::text::{first_part, is_plain_line, is_skipped, token_at};
 use sid_core::{OutOfMemory, Setup};
 use std::alloc::Global;
-
-#[tactic(auto, unfolding(crate::specs::Reading::call_line))]
-fn call_line(reader: &mut Reader, line: &[u8]) -> Result<(), Fault>
-    requires { IsReader reader.old }
-    ensures { Reads (call_line (draft_of reader.old) (tokens line.now)) reader.new result }
-{
-    let word = token_at(1, line);
-    if word == b"open".as_slice() {
-        reader.open_line(line)
-    } else if word == b"close".as_slice() {
-        reader.close_line(line)
-    } else {
-        Err(Fault::Bad(18))
-    }
-}
 
 #[tactic(auto, unfolding(crate::specs::Reading::word_line))]
 fn word_line(reader: &mut Reader, line: &[u8]) -> Result<(), Fault>
@@ -44,8 +31,10 @@ fn word_line(reader: &mut Reader, line: &[u8]) -> Result<(), Fault>
         reader.file_line(line)
     } else if word == b"phase".as_slice() {
         reader.phase_line(line)
+    } else if are_digits(word) {
+        reader.call_line(line)
     } else {
-        call_line(reader, line)
+        Err(Fault::Bad(2))
     }
 }
 
@@ -72,7 +61,8 @@ fn into_script(reader: Reader) -> Result<Script, OutOfMemory>
         mut phases,
         current,
         calls: _,
-        made: _,
+        statuses: _,
+        seats: _,
     } = reader;
     push_phase(&mut phases, current)?;
     Ok(Script {
@@ -85,16 +75,26 @@ fn at_line(line: u32, fault: Fault) -> Parse
     ensures { result ≡ at_line line fault }
 {
     match fault {
-        Fault::Bad(_) => Parse::NotBuilt { line },
+        Fault::Bad(reason) => Parse::Bad { line, reason },
         Fault::NoMemory => Parse::OutOfMemory,
     }
 }
 
+// Whether the form of a line is built.
+#[tactic(auto, unfolding(crate::specs::Reading::is_built))]
+fn is_built(line: &[u8]) -> bool
+    ensures { result ≡ is_built line.now }
+{
+    let word = token_at(0, line);
+    is_skipped(word) || !are_digits(word) || is_built_call(line)
+}
+
 fn read(alloc: Global, bytes: &[u8]) -> Result<Script, Parse>
     requires { length bytes.now ≤ 4194304 }
-    ensures { Parses (script bytes.now) result }
+    ensures { Parses (answer bytes.now) result }
 {
     let mut reader = Reader::new(alloc);
+    let mut unbuilt = None;
     let mut number = 1;
     let mut rest = bytes;
     while !rest.is_empty() {
@@ -102,18 +102,34 @@ fn read(alloc: Global, bytes: &[u8]) -> Result<Script, Parse>
         if let Err(fault) = read_line(&mut reader, line) {
             return Err(at_line(number, fault));
         }
+        unbuilt = earlier(unbuilt, number, is_built(line));
         number += 1;
         rest = after;
     }
-    Ok(into_script(reader)?)
+    match unbuilt {
+        None => Ok(into_script(reader)?),
+        Some(line) => Err(Parse::NotBuilt { line }),
+    }
+}
+
+// The first line that isn't built.
+fn earlier(unbuilt: Option<u32>, number: u32, built: bool) -> Option<u32>
+    ensures { result ≡ earlier unbuilt (if built then None else Some number) }
+{
+    match unbuilt {
+        Some(line) => Some(line),
+        None if built => None,
+        None => Some(number),
+    }
 }
 
 /// The script that a text spells.
 pub fn parse(alloc: Global, bytes: &[u8]) -> Result<Script, Parse>
     requires { length bytes.now ≤ 4194304 }
-    // The script is the one that the text spells, and the line the first that isn't built.
-    ensures exact { Parses (script bytes.now) result }
-    ensures found { IfOk result (λ read. script bytes.now ≡ Ok read) }
+    // The script is the one that the text spells, the bad line the first one with its least reason, and
+    // the line that isn't built the first one of a script.
+    ensures exact { Parses (answer bytes.now) result }
+    ensures found { IfOk result (λ read. answer bytes.now ≡ Ok read) }
     ensures sound { IfOk result IsScript }
 {
     read(alloc, bytes)

@@ -1,11 +1,20 @@
-ghost use Rattle.std.specs.Prelude.{◌≡◌, OnOk};
-ghost use Rattle.worker_script.specs.Lines.{nothing, with_planned};
-ghost use Rattle.worker_script.specs.Reader.{draft_of, IsReader};
+ghost use Rattle.std.specs.Prelude.{◌≡◌, ◌<◌, ◌≤◌, ◌-◌, ◌||◌, OnOk, IsSome, Ok, length, slice_index_or, slice_set, is_some, if◌then◌else◌};
+ghost use Rattle.worker_script.specs.Lines.{nothing, with_planned, planned_in, next_number};
+ghost use Rattle.worker_script.specs.Calls.{with_call, has_stopped, is_status_call};
+ghost use Rattle.worker_script.specs.Reader.{draft_of, no_seat, IsReader, Reads};
 
+use crate::fault::Fault;
 use crate::script::{Phase, Planned};
-use sid_core::{FileInfo, Items, OutOfMemory, WorkerInfo};
+use sid_core::{Call, FileInfo, Items, OutOfMemory, Point, WorkerInfo};
 use std::alloc::Global;
 use std::collections::BTreeSet;
+
+/// What is planned for a worker: how many calls, and whether it dies in one of them.
+#[derive(Clone, Copy, Debug, PartialEq, Eq)]
+pub(crate) struct Seat {
+    pub made: u32,
+    pub stopped: bool,
+}
 
 /// What the lines so far say.
 #[derive(Drop)]
@@ -18,9 +27,11 @@ pub(crate) struct Reader {
     /// The phases that are over, and the one that calls go to.
     pub phases: Items<Phase>,
     pub current: Option<Phase>,
-    /// How many calls are planned, and how many of them by the first worker.
+    /// How many calls are planned, and how many of them are `status`.
     pub calls: u32,
-    pub made: u32,
+    pub statuses: u32,
+    /// By worker.
+    pub seats: Vec<Seat>,
 }
 
 impl Reader {
@@ -36,8 +47,98 @@ impl Reader {
             phases: Items::new(alloc),
             current: None,
             calls: 0,
-            made: 0,
+            statuses: 0,
+            seats: Vec::new(alloc),
         }
+    }
+
+    /// Adds the next call of a declared worker.
+    pub fn plan(&mut self, worker: u32, call: Call, stop: Option<Point>) -> Result<(), Fault>
+        requires reader { IsReader self.old }
+        requires room { self.old.calls < 20000 }
+        requires phase { IsSome self.old.current }
+        requires some { 1 ≤ worker }
+        requires declared { worker ≤ length self.old.workers }
+        ensures { Reads (Ok (with_call (draft_of self.old) worker call stop)) self.new result }
+    {
+        let number = self.next_number(worker);
+        let stopped = stops(self.has_stopped(worker), stop);
+        let planned = Planned {
+            worker,
+            number,
+            call,
+            stop,
+        };
+        push_planned(&mut self.current, planned)?;
+        self.calls += 1;
+        self.statuses += count_of(is_status_call(&call));
+        set_seat(
+            &mut self.seats,
+            worker,
+            Seat {
+                made: number,
+                stopped,
+            },
+        );
+        Ok(())
+    }
+
+    // The number of a worker's next call.
+    fn next_number(&self, worker: u32) -> u32
+        requires reader { IsReader self.now }
+        requires room { self.now.calls < 20000 }
+        requires some { 1 ≤ worker }
+        requires declared { worker ≤ length self.now.workers }
+        ensures { result ≡ next_number (draft_of self.now) worker }
+    {
+        seat_of(&self.seats, worker).made + 1
+    }
+
+    /// Whether a worker dies in a planned call.
+    pub fn has_stopped(&self, worker: u32) -> bool
+        requires reader { IsReader self.now }
+        requires some { 1 ≤ worker }
+        requires declared { worker ≤ length self.now.workers }
+        ensures { result ≡ has_stopped worker (planned_in (draft_of self.now)) }
+    {
+        seat_of(&self.seats, worker).stopped
+    }
+}
+
+fn seat_of(seats: &Vec<Seat>, worker: u32) -> Seat
+    requires some { 1 ≤ worker }
+    requires within { worker ≤ length seats.now.items }
+    ensures { result ≡ slice_index_or seats.now.items (worker - 1) no_seat }
+{
+    seats[worker as usize - 1]
+}
+
+fn set_seat(seats: &mut Vec<Seat>, worker: u32, seat: Seat)
+    requires some { 1 ≤ worker }
+    requires within { worker ≤ length seats.old.items }
+    ensures { seats.new.items ≡ slice_set seats.old.items (worker - 1) seat }
+{
+    seats[worker as usize - 1] = seat;
+}
+
+fn stops(before: bool, stop: Option<Point>) -> bool
+    ensures { result ≡ (before || is_some stop) }
+{
+    before || stop.is_some()
+}
+
+fn count_of(one: bool) -> u32
+    ensures { result ≡ (if one then 1 else 0) }
+{
+    if one { 1 } else { 0 }
+}
+
+fn is_status_call(call: &Call) -> bool
+    ensures { result ≡ is_status_call call.now }
+{
+    match call {
+        Call::Status { .. } => true,
+        _ => false,
     }
 }
 

@@ -4,17 +4,20 @@ use std::alloc::{AllocError, Global};
 use std::fmt::Write;
 use std::test::Fail;
 
-const NO_MEMORY: u32 = 4_000_000_000;
+const NOT_BUILT: u32 = 100;
 
-// The first line that isn't built, or 0 for a script.
-fn first_line(alloc: Global, text: &[u8]) -> u32 {
+const NO_MEMORY: u32 = 200;
+
+// The line and the reason that are told, or (0, 0) for a script.
+fn told(alloc: Global, text: &[u8]) -> (u32, u32) {
     if text.len() > 4_194_304 {
-        return NO_MEMORY;
+        return (0, NO_MEMORY);
     }
     match parse(alloc, text) {
-        Ok(_) => 0,
-        Err(Parse::NotBuilt { line }) => line,
-        Err(Parse::OutOfMemory) => NO_MEMORY,
+        Ok(_) => (0, 0),
+        Err(Parse::Bad { line, reason }) => (line, reason),
+        Err(Parse::NotBuilt { line }) => (line, NOT_BUILT),
+        Err(Parse::OutOfMemory) => (0, NO_MEMORY),
     }
 }
 
@@ -67,166 +70,210 @@ fn a_script_is_read(rt: HostRuntime) -> Result<(), Fail> {
 }
 
 #[test]
-fn the_first_line_that_is_not_built(rt: HostRuntime) {
-    for (text, line) in [
-        ("", 0),
-        ("\n\n", 0),
-        ("#\n   # x\n", 0),
-        ("#\t", 1),
-        ("\n \x7f", 2),
-        (" ~ ", 1),
-        ("\0", 1),
+fn first_bad_lines(rt: HostRuntime) {
+    for (text, line, reason) in [
+        ("", 0, 0),
+        ("\n\n", 0, 0),
+        ("#\n   # x\n", 0, 0),
+        ("#\t", 1, 1),
+        ("\n \x7f", 2, 1),
+        ("\0worker", 1, 1),
+        ("~", 1, 2),
+        ("!take", 1, 2),
+        ("Worker 1 1 0 0 m s", 1, 2),
+        ("1a close 1", 1, 2),
+        ("worker 1", 1, 3),
+        ("phase", 1, 3),
+        ("file 1 0 0 p", 1, 3),
+        ("worker 1 0 0 0 m s", 1, 4),
+        ("worker 1 1 0 18446744073709551616 m s", 1, 4),
         (
             "worker 01 4294967295 4294967295 18446744073709551615 m s",
             0,
+            0,
         ),
-        ("worker 1 0 0 0 m s", 1),
-        ("worker 1 4294967296 0 0 m s", 1),
-        ("worker 1 1 0 18446744073709551616 m s", 1),
-        ("worker 00000000000000000001 1 0 0 m s", 0),
-        ("worker 000000000000000000001 1 0 0 m s", 1),
-        ("worker 2 1 0 0 m s", 1),
-        ("worker 1 1 0 0 m", 1),
-        ("worker 1 1 0 0 m s t", 1),
-        ("worker 1 1 0 0 m s\nworker 2 1 0 0 m s", 2),
-        (
-            "worker 1 1 0 0 m s\n\nworker 2 2 0 0 m s\nworker 2 3 0 0 m s",
-            4,
-        ),
-        ("Worker 1 1 0 0 m s", 1),
-        ("file 1 0 0 p n\nfile 2 0 1 p n\nfile 3 1 0 p n", 0),
-        ("file 1 0 0 p n\nfile 2 0 0 q o", 2),
-        ("phase 0\nphase 0\nphase 9999999999", 0),
-        ("phase 10000000000", 1),
-        ("phase 5\nphase 4", 2),
-        ("phase", 1),
-        ("phase 1 2", 1),
-        ("phase 0\nworker 1 1 0 0 m s", 2),
-        ("phase 0\nfile 1 0 0 p n", 2),
-        ("worker 1 1 0 0 m s\n1 close 1", 2),
-        ("phase 0\n1 close 1", 2),
-        (
-            "worker 1 1 0 0 m s\nworker 2 2 0 0 m s\nphase 0\n2 close 1",
-            4,
-        ),
+        ("worker 00000000000000000001 1 0 0 m s", 0, 0),
+        ("worker 000000000000000000001 1 0 0 m s", 1, 4),
+        ("phase 10000000000", 1, 4),
+        ("99999999999 close 1", 1, 4),
+        ("phase 0\nworker 1 1 0 0 m s", 2, 5),
+        ("phase 0\nworker 9 1 0 0 m s", 2, 5),
+        ("phase 0\nfile 2 0 0 p n", 2, 5),
+        ("worker 2 1 0 0 m s", 1, 6),
+        ("file 0 0 0 p n", 1, 6),
+        ("worker 1 1 0 0 m s\nworker 1 1 0 0 m s", 2, 6),
+        ("worker 1 1 0 0 m s\nworker 2 1 0 0 m s", 2, 12),
+        ("file 1 0 0 p n\nfile 2 0 1 p n\nfile 3 1 0 p n", 0, 0),
+        ("file 1 0 0 p n\nfile 2 0 0 q o", 2, 13),
+        ("phase 5\nphase 5\nphase 4", 3, 15),
+        ("1 close 1", 1, 16),
+        ("9 fly", 1, 16),
+        ("1", 1, 16),
+        ("1 close x", 1, 4),
     ] {
         assert_eq!(rt;
-            first_line(rt.alloc(), text.as_bytes()),
-            line,
+            told(rt.alloc(), text.as_bytes()),
+            (line, reason),
             "of {text:?}"
         );
     }
 }
 
-// Lines that stand behind three lines that declare worker 1 and file 1 and begin a phase.
+// Lines behind four lines that declare two workers and a file and begin a phase.
 #[test]
-fn the_first_call_that_is_not_built(rt: HostRuntime) -> Result<(), Fail> {
-    for (calls, line) in [
-        ("1 open 1 0x3 rwd\n1 close 1\n", 0),
+fn first_bad_calls(rt: HostRuntime) -> Result<(), Fail> {
+    for (calls, line, reason) in [
+        ("1 open 1 0x3 rwd\n1 close 1\n", 0, 0),
+        ("1 open 1 0x1F01ff -", 0, 0),
+        ("1 recv", 5, NOT_BUILT),
+        ("1 close 1\n1 close 1 !take", 6, NOT_BUILT),
+        ("2 close 1", 5, NOT_BUILT),
         (
-            "1 open 1 0x1 -\n1 open 1 0x1 r\n1 open 1 0x1 w\n1 open 1 0x1 d",
-            0,
+            "1 open 1 0x3 r overwrite lease=1:RWH durable=60",
+            5,
+            NOT_BUILT,
         ),
-        (
-            "1 open 1 0x1 rw\n1 open 1 0x1 rd\n1 open 1 0x1 wd\n1 open 1 0x1 dr",
-            7,
-        ),
-        ("1 open 1 0x00000001 r", 0),
-        ("1 open 1 0x000000001 r", 4),
-        ("1 open 1 0x0 r", 4),
-        ("1 open 1 0x200 r", 4),
-        ("1 open 1 3 r", 4),
-        ("1 open 1 0X3 r", 4),
-        ("1 open 1 0x r", 4),
-        ("1 open 1 0xg r", 4),
-        ("1 open 2 0x3 r", 4),
-        ("1 open 0 0x3 r", 4),
-        ("1 open 1 0x3", 4),
-        ("1 open 1 0x3 r overwrite", 4),
-        ("1 close 4294967295", 0),
-        ("1 close 4294967296", 4),
-        ("1 close", 4),
-        ("1 close 1 !take", 4),
-        ("1 close 1\n1 recv", 5),
-        ("2 close 1", 4),
-        ("0 close 1", 4),
-        ("x close 1", 4),
-        ("1", 4),
-        ("1 Open 1 0x3 r", 4),
+        ("1 recv\n1 fly", 6, 18),
+        ("9 fly", 5, 17),
+        ("0 close 1", 5, 17),
+        ("3 recv !x", 5, 17),
+        ("1 reconnect 3 1 1", 5, 17),
+        ("1", 5, 18),
+        ("1 !take", 5, 18),
+        ("1 fly 1 2", 5, 18),
+        ("1 recv !take !take", 5, 3),
+        ("1 open 1 0x3", 5, 3),
+        ("1 open 1 0x3 r overwrite durable=1 lease=1:R x", 5, 3),
+        ("1 status -S -L -B -S", 5, 3),
+        ("1 close 4294967296", 5, 4),
+        ("1 lock 1 0 x s now", 5, 4),
+        ("1 ack 18446744073709551616 R", 5, 4),
+        ("1 open 2 0x3 r", 5, 19),
+        ("1 open 0 0x0 q", 5, 19),
+        ("1 open 1 3 r", 5, 20),
+        ("1 open 1 0X3 q", 5, 20),
+        ("1 open 1 0x r", 5, 20),
+        ("1 open 1 0x000000001 r", 5, 20),
+        ("1 open 1 0x0 r", 5, 20),
+        ("1 open 1 0x200 r", 5, 20),
+        ("1 open 1 0x3 dr", 5, 21),
+        ("1 open 1 0x3 rr x", 5, 21),
+        ("1 open 1 0x3 r overwrite overwrite", 5, 22),
+        ("1 open 1 0x3 r lease=1R", 5, 22),
+        ("1 open 1 0x3 r lease=18446744073709551616:R", 5, 22),
+        ("1 open 1 0x3 r durable=0", 5, 22),
+        ("1 open 1 0x3 r lease=1:R durable=1 lease=1:R", 5, 22),
+        ("1 ack 1 W", 5, 22),
+        ("1 lock 1 0 1 r now", 5, 22),
+        ("1 lock 1 0 1 s later", 5, 22),
+        ("1 glock 1 x now", 5, 22),
+        ("1 status -S -L", 5, 22),
+        ("1 status -B -B", 5, 22),
+        ("1 recv !take\n1 recv", 6, 23),
+        ("1 recv !take\n1 recv !x", 6, 23),
+        ("1 recv !x", 5, 24),
+        ("1 recv !", 5, 24),
+        ("1 open 1 0x3 r !takes", 5, 24),
     ] {
-        let text = format!(in rt.alloc(); "worker 1 1 0 0 m s\nfile 1 0 0 p n\nphase 0\n{calls}")?;
+        let head = "worker 1 1 0 0 m s\nworker 2 2 0 0 m s\nfile 1 0 0 p n\nphase 5\n";
+        let text = format!(in rt.alloc(); "{head}{calls}")?;
         assert_eq!(rt;
-            first_line(rt.alloc(), text.as_bytes()),
-            line,
+            told(rt.alloc(), text.as_bytes()),
+            (line, reason),
             "of {calls:?}"
         );
     }
     Ok(())
 }
 
-// How many lines are taken: `count` times `front`, the number of the line and `back`.
-fn first_of_many(
+// What is told of `head` and as many lines of `front`, the line's number and `back`.
+fn told_of_many(
     alloc: Global,
     head: &str,
     count: u32,
     front: &str,
     back: &str,
-) -> Result<u32, AllocError> {
+) -> Result<(u32, u32), AllocError> {
     let mut text = String::from_str(alloc, head)?;
     for number in 1..=count {
         write!(text, "{front} {number} {back}\n")?;
     }
-    Ok(first_line(alloc, text.as_bytes()))
+    Ok(told(alloc, text.as_bytes()))
 }
 
 #[test]
 fn limits(rt: HostRuntime) -> Result<(), Fail> {
-    for (head, count, front, back, line) in [
-        ("", 10_000, "file", "0 18446744073709551615 p n", 2),
-        ("", 10_000, "phase", "", 0),
-        ("", 10_001, "phase", "", 10_001),
-        ("worker 1 1 0 0 m s\nphase 0\n", 20_000, "1 close", "", 0),
+    for (head, count, front, back, line, reason) in [
+        ("", 10_000, "phase", "", 0, 0),
+        ("", 10_001, "phase", "", 10_001, 9),
+        ("worker 1 1 0 0 m s\nphase 0\n", 20_000, "1 close", "", 0, 0),
         (
             "worker 1 1 0 0 m s\nphase 0\n",
             20_001,
             "1 close",
             "",
             20_003,
+            10,
+        ),
+        (
+            "worker 1 1 0 0 m s\nphase 0\n",
+            100,
+            "1 gunlock",
+            "",
+            3,
+            NOT_BUILT,
         ),
     ] {
-        let found = first_of_many(rt.alloc(), head, count, front, back)?;
-        assert_eq!(rt; found, line, "of {count} {front}");
+        let found = told_of_many(rt.alloc(), head, count, front, back)?;
+        assert_eq!(rt; found, (line, reason), "of {count} {front}");
     }
     Ok(())
 }
 
 #[test]
-fn many_workers_and_files(rt: HostRuntime) -> Result<(), Fail> {
+fn many_of_a_kind(rt: HostRuntime) -> Result<(), Fail> {
     let mut text = String::new(rt.alloc());
     for number in 1..=65 {
         write!(text, "worker {number} {number} 0 0 m s\n")?;
     }
-    assert_eq!(rt; first_line(rt.alloc(), text.as_bytes()), 65);
+    assert_eq!(rt; told(rt.alloc(), text.as_bytes()), (65, 7));
     let mut text = String::new(rt.alloc());
     for number in 1..=10_001 {
         write!(text, "file {number} 1 {number} p n\n")?;
     }
-    assert_eq!(rt; first_line(rt.alloc(), text.as_bytes()), 10_001);
+    assert_eq!(rt; told(rt.alloc(), text.as_bytes()), (10_001, 8));
+    let mut text = String::from_str(rt.alloc(), "worker 1 1 0 0 m s\nphase 0\n")?;
+    for _ in 1..=100 {
+        text.push_str("1 status -L -B\n")?;
+    }
+    assert_eq!(rt; told(rt.alloc(), text.as_bytes()), (3, NOT_BUILT));
+    text.push_str("1 status -L -L\n")?;
+    assert_eq!(rt; told(rt.alloc(), text.as_bytes()), (103, 11));
     Ok(())
 }
 
-// A text of 255 bytes and one of 256, a line of 4 MiB of one byte, and one that isn't ended.
+// A text of 255 bytes and one of 256, and a line of 4 MiB of one byte.
 #[test]
 fn long_lines(rt: HostRuntime) -> Result<(), Fail> {
-    for (length, line) in [(255, 0), (256, 1)] {
+    for (length, line, reason) in [(255, 0, 0), (256, 1, 14)] {
         let name = vec![in rt.alloc(); b'x'; length]?;
         let mut text = Vec::from_slice(rt.alloc(), b"file 1 0 0 p ".as_slice())?;
         text.extend_from_slice(name.as_slice())?;
-        assert_eq!(rt; first_line(rt.alloc(), text.as_slice()), line);
+        assert_eq!(rt; told(rt.alloc(), text.as_slice()), (line, reason));
     }
-    for (byte, line) in [(b' ', 0), (b'#', 0), (b'1', 1), (b'\n', 0), (0, 1)] {
+    for (byte, line, reason) in [
+        (b' ', 0, 0),
+        (b'#', 0, 0),
+        (b'1', 1, 4),
+        (b'\n', 0, 0),
+        (0, 1, 1),
+    ] {
         let text = vec![in rt.alloc(); byte; 4_194_304]?;
-        assert_eq!(rt; first_line(rt.alloc(), text.as_slice()), line, "of {byte}");
+        assert_eq!(rt;
+            told(rt.alloc(), text.as_slice()),
+            (line, reason),
+            "of {byte}"
+        );
     }
     Ok(())
 }

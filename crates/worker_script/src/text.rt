@@ -7,8 +7,8 @@ ghost use Rattle.worker_script.specs.Search.{before};
 use sid_core::{OutOfMemory, Text};
 use std::alloc::Global;
 
-// How many bytes stand before the first separator.
-fn find(separator: u8, bytes: &[u8]) -> usize
+/// How many bytes stand before the first separator.
+pub(crate) fn find(separator: u8, bytes: &[u8]) -> usize
     ensures found { result ≡ before separator bytes.now }
     ensures within { result ≤ length bytes.now }
 {

@@ -1,4 +1,4 @@
-ghost use Rattle.std.specs.Prelude.{◌≡◌, ◌<◌, ◌==◌, cond, Some, None, IfOk, length};
+ghost use Rattle.std.specs.Prelude.{◌≡◌, ◌<◌, ◌==◌, cond, Some, None, OnOk, is_none, true, length};
 ghost use Rattle.std.specs.List.{list_any};
 ghost use Rattle.worker_script.specs.Text.{tokens};
 ghost use Rattle.worker_script.specs.Values.{is_short};
@@ -8,7 +8,7 @@ ghost use Rattle.worker_script.specs.Numbers.{worker_numbers};
 
 use crate::fault::Fault;
 use crate::number::{number_u32, number_u64, positive_u32};
-use crate::reader::Reader;
+use crate::reader::{Reader, Seat};
 use crate::text::{count_tokens, is_short, text, token_at};
 use sid_core::WorkerInfo;
 
@@ -44,7 +44,8 @@ impl Reader {
     fn worker_fault(&self, line: &[u8]) -> Result<WorkerNumbers, u32>
         requires { IsReader self.now }
         ensures fault { Finds (worker_fault (draft_of self.now) (tokens line.now)) (worker_numbers (tokens line.now)) result }
-        ensures room { IfOk result (λ _. length self.now.workers < 64) }
+        ensures room { OnOk result (length self.now.workers < 64) }
+        ensures no_phase { OnOk result (is_none self.now.current ≡ true) }
     {
         if count_tokens(line) != 7 {
             return Err(3);
@@ -84,6 +85,10 @@ impl Reader {
             guid: numbers.guid,
             machine,
             share,
+        })?;
+        self.seats.push(Seat {
+            made: 0,
+            stopped: false,
         })?;
         Ok(())
     }

@@ -1,7 +1,8 @@
 use Rattle.std.proofs.Common.{◌≡◌, ◌≤◌, ◌+◌, length}
 use Rattle.worker_script.specs.Text.{lines}
 use Rattle.worker_script.specs.Reader.{draft_of, IsReader}
-use Rattle.worker_script.specs.Reading.{script, script_from}
+use Rattle.worker_script.specs.Reading.{script, script_from, first_unbuilt}
+use Rattle.worker_script.specs.Answer.{earlier}
 use Rattle.worker_script.proofs.parsing.read.Given as goal
 
 abbrev pub invariant-loop-rest : goal.invariant-loop-rest
@@ -9,6 +10,7 @@ invariant-loop-rest l = record {
   reader : IsReader l.reader;
   number : l.number + length l.rest ≤ length l.bytes + 1;
   answer : script_from l.number (draft_of l.reader) (lines l.rest) ≡ script l.bytes;
+  unbuilt : earlier l.unbuilt (first_unbuilt l.number (lines l.rest)) ≡ first_unbuilt 1 (lines l.bytes);
 }
 
 abbrev pub decreases-loop-rest : goal.decreases-loop-rest

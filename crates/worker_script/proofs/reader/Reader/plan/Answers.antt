@@ -1,24 +1,14 @@
-use Rattle.std.proofs.Common.{◌+◌, None, refl, arith}
+use Rattle.std.proofs.Common.{◌∙◌, refl}
 use Rattle.worker_script.specs.declared.script.Planned.{Planned}
-use Rattle.worker_script.proofs.Counts.{planned-more, numbers-more}
+use Rattle.worker_script.proofs.Planning.{plan-reader}
 use Rattle.worker_script.proofs.reader.Reader.plan.Goals as goal
 
 pub returns : goal.returns
 returns c =
-    let reader = c.args.self.now in
-    let planned : Planned = record { worker = 1; number = reader.made + 1; call = c.args.call; stop = None } in
-    let calls = planned-more reader.phases reader.current planned c.requires.phase in
-    let made = numbers-more 1 reader.phases reader.current planned c.requires.phase refl in
-    rw c.in_ok-push_planned.ensures (
-      cc,
-      record {
-        few_workers = c.requires.reader.few_workers;
-        few_files = c.requires.reader.few_files;
-        few_phases = c.requires.reader.few_phases;
-        places = c.requires.reader.places;
-        calls = omega (arith, calls, c.requires.reader.calls);
-        few_calls = omega (arith, c.requires.room);
-        made = omega (arith, made, c.requires.reader.made);
-        few_made = omega (arith, c.requires.reader.few_made);
-      },
+    let planned : Planned = record { worker = c.args.worker; number = c.next_number-number.result; call = c.args.call; stop = c.args.stop } in (
+      rw (c.in_ok-push_planned.ensures, c.next_number-number.ensures) refl,
+      plan-reader c.args.self.now _ planned c.requires.reader c.requires.phase c.requires.room c.requires.some c.requires.declared
+          refl refl refl refl c.in_ok-push_planned.ensures refl
+          (rw (c.count_of.ensures, c.is_status_call.ensures) refl)
+          (c.set_seat.ensures ∙ rw (c.next_number-number.ensures, c.stops-stopped.ensures, c.has_stopped.ensures) refl),
     )

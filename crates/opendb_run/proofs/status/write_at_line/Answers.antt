@@ -1,0 +1,9 @@
+use Rattle.std.proofs.Common.{codes}
+use Rattle.opendb_run.proofs.Appending.{AppendsPrefix-first, AppendsPrefix-next}
+use Rattle.opendb_run.proofs.status.write_at_line.Goals as goal
+
+pub returns-in_err-write_all-clause-prefix : goal.returns-in_err-write_all-clause-prefix
+returns-in_err-write_all-clause-prefix g c = AppendsPrefix-first _ _ (codes "opendb: line ") _ c.in_err-write_all.ensures.prefix
+
+pub returns-clause-prefix : goal.returns-clause-prefix
+returns-clause-prefix g c = AppendsPrefix-next _ _ _ (codes "opendb: line ") _ c.in_ok-write_all.ensures.written c.write_decimal.ensures.prefix

@@ -1,0 +1,96 @@
+-- What is planned for each worker, when one call more is planned.
+use Rattle.std.proofs.Common.{◌≡◌, ℕ, ◌+◌, ◌-◌, ◌<◌, ◌≤◌, Bool, true, false, cond, eqb, ◌&&◌, ◌||◌, List, [], ◌∷◌, ◌++◌, length, get_or, set, is_some, refl, ap, sym, ◌∙◌, length-append, arith}
+use Rattle.std.specs.List.{fold}
+use Rattle.std.proofs.lemmas.Bool.Decides.{nat_tests}
+use Rattle.std.proofs.lemmas.List.{get_or-set_same, get_or-set_other}
+use Rattle.worker_script.specs.declared.script.Planned.{Planned}
+use Rattle.worker_script.specs.declared.reader.Seat.{Seat}
+use Rattle.worker_script.specs.Script.{numbers_of}
+use Rattle.worker_script.specs.Calls.{has_stopped, is_status_call, statuses_in}
+use Rattle.worker_script.specs.Reader.{seat_in, no_seat}
+use Rattle.worker_script.proofs.Counts.{append-nil, numbers_of-append, own_number-own, own_number-other}
+
+or-none : (b : Bool) → (b || false) ≡ b
+or-none true = refl
+or-none false = refl
+
+or-assoc : (a b c : Bool) → ((a || b) || c) ≡ (a || (b || c))
+or-assoc true b c = refl
+or-assoc false b c = refl
+
+stopped-push : (worker : ℕ) (calls : List Planned) (planned : Planned)
+    → has_stopped worker (calls ++ planned ∷ []) ≡ (has_stopped worker calls || (eqb planned.worker worker && is_some planned.stop))
+stopped-push worker [] planned = or-none (eqb planned.worker worker && is_some planned.stop)
+stopped-push worker (x ∷ calls) planned =
+    ap (λ b. (eqb x.worker worker && is_some x.stop) || b) (stopped-push worker calls planned)
+    ∙ sym (or-assoc (eqb x.worker worker && is_some x.stop) (has_stopped worker calls) (eqb planned.worker worker && is_some planned.stop))
+
+same-seat : (m n : ℕ) (a b : Bool) → m ≡ n → a ≡ b → ◌≡◌ {A = Seat} (record { made = m; stopped = a }) (record { made = n; stopped = b })
+same-seat m n a b e f = cc
+
+stops-own : (t a b : Bool) → t ≡ true → (a || (t && b)) ≡ (a || b)
+stops-own t a b e = rw e refl
+
+stops-other : (t a b : Bool) → t ≡ false → (a || (t && b)) ≡ a
+stops-other t a b e = rw e (or-none a)
+
+-- Its worker has one call more, and dies where it has a stop.
+pub seat-own : (worker : ℕ) (calls : List Planned) (planned : Planned) → planned.worker ≡ worker
+    → seat_in (calls ++ planned ∷ []) worker ≡ record { made = length (numbers_of worker calls) + 1; stopped = has_stopped worker calls || is_some planned.stop }
+seat-own worker calls planned own =
+    let same : eqb planned.worker worker ≡ true = grind (arith, nat_tests) in
+    let numbers : numbers_of worker (calls ++ planned ∷ []) ≡ numbers_of worker calls ++ planned.number ∷ [] =
+    rw (numbers_of-append worker calls (planned ∷ []), own_number-own worker planned own) refl in
+    same-seat (length (numbers_of worker (calls ++ planned ∷ []))) (length (numbers_of worker calls) + 1)
+    (has_stopped worker (calls ++ planned ∷ [])) (has_stopped worker calls || is_some planned.stop)
+    (rw numbers (length-append (numbers_of worker calls) (planned.number ∷ [])))
+    (stopped-push worker calls planned ∙ stops-own (eqb planned.worker worker) (has_stopped worker calls) (is_some planned.stop) same)
+
+-- The other workers have what they had.
+pub seat-other : (worker : ℕ) (calls : List Planned) (planned : Planned) → eqb planned.worker worker ≡ false
+    → seat_in (calls ++ planned ∷ []) worker ≡ seat_in calls worker
+seat-other worker calls planned other =
+    let numbers : numbers_of worker (calls ++ planned ∷ []) ≡ numbers_of worker calls =
+    rw (numbers_of-append worker calls (planned ∷ []), own_number-other worker planned other) (append-nil (numbers_of worker calls)) in
+    same-seat (length (numbers_of worker (calls ++ planned ∷ []))) (length (numbers_of worker calls))
+    (has_stopped worker (calls ++ planned ∷ [])) (has_stopped worker calls)
+    (ap length numbers)
+    (stopped-push worker calls planned ∙ stops-other (eqb planned.worker worker) (has_stopped worker calls) (is_some planned.stop) other)
+
+fold-push : {X Y : Type 0} (f : Y → X → Y) (a : Y) (xs : List X) (x : X) → fold f a (xs ++ x ∷ []) ≡ f (fold f a xs) x
+fold-push f a [] x = refl
+fold-push f a (y ∷ xs) x = fold-push f (f a y) xs x
+
+-- A `status` call more, or not.
+pub statuses-push : (calls : List Planned) (planned : Planned)
+    → statuses_in (calls ++ planned ∷ []) ≡ statuses_in calls + cond (is_status_call planned.call) 1 0
+statuses-push calls planned = fold-push (λ (n : ℕ) (p : Planned). n + cond (is_status_call p.call) 1 0) 0 calls planned
+
+-- a worker's seat with this call
+abbrev pub raised : List Planned → Planned → Seat
+raised calls planned = record { made = length (numbers_of planned.worker calls) + 1; stopped = has_stopped planned.worker calls || is_some planned.stop }
+
+-- Each worker has a seat with what is planned for it.
+pub record AreSeats (seats : List Seat) (calls : List Planned) : Type 0 where
+  pub each : (i : ℕ) → i < length seats → get_or seats i no_seat ≡ seat_in calls (i + 1)
+
+seat-step : (seats : List Seat) (calls : List Planned) (planned : Planned) (i : ℕ) (own : Bool) → eqb planned.worker (i + 1) ≡ own
+    → 1 ≤ planned.worker → planned.worker ≤ length seats → i < length seats → AreSeats seats calls
+    → get_or (set seats (planned.worker - 1) (record { made = length (numbers_of planned.worker calls) + 1; stopped = has_stopped planned.worker calls || is_some planned.stop })) i no_seat
+    ≡ seat_in (calls ++ planned ∷ []) (i + 1)
+seat-step seats calls planned i true e some within here are =
+    let same : planned.worker ≡ i + 1 = grind (arith, nat_tests) in
+    let place : planned.worker - 1 ≡ i = omega arith in
+    let put : get_or (set seats (planned.worker - 1) (raised calls planned)) i no_seat ≡ raised calls planned =
+    rw place (get_or-set_same seats i (raised calls planned) no_seat here) in
+    put ∙ (sym (seat-own planned.worker calls planned refl) ∙ ap (λ (w : ℕ). seat_in (calls ++ planned ∷ []) w) same)
+seat-step seats calls planned i false e some within here are =
+    let apart : i ≡ planned.worker - 1 → ⊥ = λ eq. absurd (grind (arith, nat_tests)) in
+    get_or-set_other seats (planned.worker - 1) i _ no_seat apart ∙ are.each i here ∙ sym (seat-other (i + 1) calls planned e)
+
+-- One call more.
+pub seats-plan : (seats : List Seat) (calls : List Planned) (planned : Planned) → 1 ≤ planned.worker → planned.worker ≤ length seats → AreSeats seats calls
+    → (i : ℕ) → i < length seats
+    → get_or (set seats (planned.worker - 1) (record { made = length (numbers_of planned.worker calls) + 1; stopped = has_stopped planned.worker calls || is_some planned.stop })) i no_seat
+    ≡ seat_in (calls ++ planned ∷ []) (i + 1)
+seats-plan seats calls planned some within are i here = seat-step seats calls planned i (eqb planned.worker (i + 1)) refl some within here are

@@ -1,0 +1,146 @@
+ghost use Rattle.std.specs.Prelude.{◌≡◌};
+ghost use Rattle.worker_script.specs.Text.{tokens, token};
+ghost use Rattle.worker_script.specs.Values.{is_number, is_u32, is_u64};
+ghost use Rattle.worker_script.specs.Calls.{begins_stop, has_stop, call_length, last_token, is_length, are_span_numbers, are_numbers, wrong_length, wrong_number, is_status, is_built_word, is_built_call};
+
+use crate::number::{number, number_u32, number_u64};
+use crate::text::{count_tokens, token_at};
+use crate::word::{Word, word_of};
+
+// Whether a token begins with `!`.
+fn begins_stop(token: &[u8]) -> bool
+    ensures { result ≡ begins_stop token.now }
+{
+    match token {
+        [] => false,
+        [first, ..] => *first == b'!',
+    }
+}
+
+/// The last token of a line.
+pub(crate) fn last_token(line: &[u8]) -> &[u8]
+    ensures { result.now ≡ last_token (tokens line.now) }
+{
+    token_at(count_tokens(line).saturating_sub(1), line)
+}
+
+/// Whether a call line has a stop.
+#[tactic(auto, unfolding(crate::specs::Calls::has_stop))]
+pub(crate) fn has_stop(line: &[u8]) -> bool
+    ensures { result ≡ has_stop (tokens line.now) }
+{
+    2 <= count_tokens(line) && begins_stop(last_token(line))
+}
+
+/// How many tokens a call line has without its stop.
+#[tactic(auto, unfolding(crate::specs::Calls::call_length))]
+pub(crate) fn call_length(line: &[u8]) -> usize
+    ensures { result ≡ call_length (tokens line.now) }
+{
+    if has_stop(line) {
+        count_tokens(line).saturating_sub(1)
+    } else {
+        count_tokens(line)
+    }
+}
+
+/// Whether a line with this word has so many tokens.
+fn is_length(word: Word, count: usize) -> bool
+    ensures { result ≡ is_length word count }
+{
+    match word {
+        Word::Open => 5 <= count && count <= 8,
+        Word::Close | Word::GUnlock => count == 3,
+        Word::Ack => count == 4,
+        Word::Lock => count == 7,
+        Word::Unlock | Word::Read | Word::Write | Word::GLock | Word::Reconnect => count == 5,
+        Word::Recv | Word::Disconnect | Word::Scavenge | Word::Tidy => count == 2,
+        Word::Status => 2 <= count && count <= 5,
+    }
+}
+
+fn is_u32(index: usize, line: &[u8]) -> bool
+    ensures { result ≡ is_u32 (token index (tokens line.now)) }
+{
+    number_u32(token_at(index, line)).is_some()
+}
+
+fn is_u64(index: usize, line: &[u8]) -> bool
+    ensures { result ≡ is_u64 (token index (tokens line.now)) }
+{
+    number_u64(token_at(index, line)).is_some()
+}
+
+fn are_span_numbers(line: &[u8]) -> bool
+    ensures { result ≡ are_span_numbers (tokens line.now) }
+{
+    is_u32(2, line) && is_u64(3, line) && is_u64(4, line)
+}
+
+fn are_numbers(word: Word, line: &[u8]) -> bool
+    ensures { result ≡ are_numbers word (tokens line.now) }
+{
+    match word {
+        Word::Open | Word::Close => is_u32(2, line),
+        Word::Ack | Word::GLock | Word::GUnlock => is_u64(2, line),
+        Word::Lock | Word::Unlock | Word::Read | Word::Write => are_span_numbers(line),
+        Word::Reconnect => is_u32(2, line) && is_u32(3, line) && is_u64(4, line),
+        Word::Recv | Word::Disconnect | Word::Scavenge | Word::Tidy | Word::Status => true,
+    }
+}
+
+/// Whether the word is known, and a line with it hasn't so many tokens.
+pub(crate) fn wrong_length(word: Option<Word>, count: usize) -> bool
+    ensures { result ≡ wrong_length word count }
+{
+    match word {
+        None => false,
+        Some(word) => !is_length(word, count),
+    }
+}
+
+/// Whether the word is known, and a number token behind it is wrong.
+pub(crate) fn wrong_number(word: Option<Word>, line: &[u8]) -> bool
+    ensures { result ≡ wrong_number word (tokens line.now) }
+{
+    match word {
+        None => false,
+        Some(word) => !are_numbers(word, line),
+    }
+}
+
+pub(crate) fn is_status(word: Option<Word>) -> bool
+    ensures { result ≡ is_status word }
+{
+    match word {
+        Some(Word::Status) => true,
+        _ => false,
+    }
+}
+
+fn is_built_word(word: Option<Word>, count: usize) -> bool
+    ensures { result ≡ is_built_word word count }
+{
+    match word {
+        Some(Word::Open) => count == 5,
+        Some(Word::Close) => true,
+        _ => false,
+    }
+}
+
+// Whether a call line is one of the first worker.
+fn is_first(line: &[u8]) -> bool
+    ensures { result ≡ is_number 1 1 (token 0 (tokens line.now)) }
+{
+    number(1, 1, token_at(0, line)).is_some()
+}
+
+/// Whether the form of a call line is built.
+#[tactic(auto, unfolding(crate::specs::Calls::is_built_call))]
+pub(crate) fn is_built_call(line: &[u8]) -> bool
+    ensures { result ≡ is_built_call (tokens line.now) }
+{
+    is_first(line)
+        && !has_stop(line)
+        && is_built_word(word_of(token_at(1, line)), count_tokens(line))
+}
