@@ -351,7 +351,7 @@ plain_is_sound setup history t h = record {
       (λ row p. ap (λ lease. option_map_or (λ name. list_any (λ l. same_name l.name name && (l.file == row.file)) t.leases) lease true) p.lease) t.opens h.opens);
   durable_are_leased = all_true is_leased_if_durable t.opens
       (all_weaker (IsPlainOpen setup history) (λ row. is_leased_if_durable row ≡ true)
-          (λ row p. ap (λ seconds. (seconds == 0) || is_some row.lease) p.durable) t.opens h.opens);
+      (λ row p. ap (λ seconds. (seconds == 0) || is_some row.lease) p.durable) t.opens h.opens);
   opens_may_stay = all_true (may_stay t) t.opens
       (all_weaker (IsPlainOpen setup history) (λ row. may_stay t row ≡ true)
       (λ row p. ap (λ b. b || (not (row.durable == 0) && holds_handle t row)) (plain_lives setup history t h.workers row p)) t.opens h.opens);
