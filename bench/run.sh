@@ -1,5 +1,5 @@
 #!/usr/bin/env bash
-# How many instructions the program takes: for each byte of comment lines, and for each call of one worker.
+# How many instructions the program takes: for each byte of comment lines and of call lines, and for each call of one worker.
 # They are counted by valgrind's callgrind on the program that the gate built (.ci/run), so that the figures don't depend
 # on what else the machine does. Run by hand; the gate doesn't. Prints the rows of bench/RESULTS.md.
 set -eu
@@ -9,19 +9,21 @@ program=crates/opendb/out/opendb
 room=$(mktemp -d)
 trap 'rm -rf "$room"' EXIT
 
-# instructions SCRIPT: those of one run of it, which has to end with status 0
+# instructions SCRIPT [STATUS]: those of one run of it, which has to end with this status, or 0
 instructions() {
-  valgrind --tool=callgrind --callgrind-out-file=/dev/null --log-file="$room/log" "$program" run <"$1" >/dev/null || {
-    echo "bench: a run ended with status $?" >&2
+  local ended=0
+  valgrind --tool=callgrind --callgrind-out-file=/dev/null --log-file="$room/log" "$program" run <"$1" >/dev/null 2>&1 || ended=$?
+  [ "$ended" -eq "${2:-0}" ] || {
+    echo "bench: a run ended with status $ended" >&2
     return 1
   }
   sed -n 's/^.*Collected : \([0-9]*\).*$/\1/p' "$room/log"
 }
 
-# row WHAT COUNT WITHOUT: what the script in $room takes, of so many bytes or calls, less what one with none takes
+# row WHAT COUNT WITHOUT [STATUS]: what the script in $room takes, of so many bytes or calls, less what one with none takes
 row() {
   local used
-  used=$(instructions "$room/script")
+  used=$(instructions "$room/script" "${4:-0}")
   used=$((used - $3))
   echo "| $1 | $2 | $used | $(awk -v all="$used" -v count="$2" 'BEGIN { printf "%.1f", all / count }') |"
 }
@@ -50,6 +52,23 @@ comments() {
   awk 'BEGIN { line = "#"; while (length(line) < 63) line = line "."; while (1) print line }' 2>/dev/null | head -c "$1" || true
 }
 
+# mixed CALLS: calls of each word, by 64 workers on 10,000 files, in a phase for each thousand
+mixed() {
+  awk -v calls="$1" 'BEGIN {
+    for (w = 1; w <= 64; w++) printf "worker %d %d %d %d host%d data\n", w, 100 + w, 1000 + w, w, w
+    for (f = 1; f <= 10000; f++) printf "file %d 1 %d /srv/data file%d\n", f, f, f
+    text = "open @ 0x3 rwd lease=@:RWH durable=60;open @ 0x1F01FF - overwrite;close 7;ack @ RH;lock 7 @ 100 x wait;" \
+      "unlock 7 @ 100;read 7 @ 100;write 7 @ 100;glock @ r now;gunlock @;recv;disconnect;reconnect 9 7 @;scavenge;tidy"
+    words = split(text, word, ";")
+    for (k = 0; k < calls; k++) {
+      if (k % 1000 == 0) print "phase " k
+      line = word[k % words + 1]
+      gsub(/@/, k % 10000 + 1, line)
+      print k % 64 + 1, line
+    }
+  }'
+}
+
 echo '| input | bytes or calls | instructions | for each |'
 echo '|---|---|---|---|'
 script=examples/open_and_close.txt
@@ -60,6 +79,9 @@ for total in 1048576 4194304; do
   [ "$(wc -c <"$room/script")" -eq "$total" ]
   row "comment lines, $((total / 1048576)) MiB with the first example" $((total - size)) "$alone"
 done
+mixed 20000 >"$room/script"
+size=$(wc -c <"$room/script")
+row '20,000 calls of all words, 64 workers, 10,000 files; read and not run' "$size" "$(instructions /dev/null)" 20
 closed_at_once 0 >"$room/script"
 none=$(instructions "$room/script")
 for calls in 2000 20000; do
