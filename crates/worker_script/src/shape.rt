@@ -29,18 +29,20 @@ pub(crate) fn last_token(line: &[u8]) -> &[u8]
 pub(crate) fn has_stop(line: &[u8]) -> bool
     ensures { result ≡ has_stop (tokens line.now) }
 {
-    2 <= count_tokens(line) && begins_stop(last_token(line))
+    let count = count_tokens(line);
+    2 <= count && begins_stop(token_at(count - 1, line))
 }
 
 /// How many tokens a call line has without its stop.
-#[tactic(auto, unfolding(crate::specs::Calls::call_length))]
+#[tactic(auto, unfolding(crate::specs::Calls::call_length, crate::specs::Calls::has_stop))]
 pub(crate) fn call_length(line: &[u8]) -> usize
     ensures { result ≡ call_length (tokens line.now) }
 {
-    if has_stop(line) {
-        count_tokens(line).saturating_sub(1)
+    let count = count_tokens(line);
+    if 2 <= count && begins_stop(token_at(count - 1, line)) {
+        count - 1
     } else {
-        count_tokens(line)
+        count
     }
 }
 
