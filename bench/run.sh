@@ -1,29 +1,15 @@
 #!/usr/bin/env bash
 # How many instructions the program takes: for each byte of comment lines and of call lines, and for each call of one worker.
-# They are counted by valgrind's callgrind on the program that the gate built (.ci/run), so that the figures don't depend
-# on what else the machine does. Run by hand; the gate doesn't. Prints the rows of bench/RESULTS.md.
+# Run by hand on the program that the gate built; the gate doesn't. Prints the rows of bench/RESULTS.md.
 set -eu
 cd "$(dirname "$0")/.."
 program=crates/opendb/out/opendb
-[ -x "$program" ] || { echo "bench: no program is built: run .ci/run first" >&2; exit 1; }
-room=$(mktemp -d)
-trap 'rm -rf "$room"' EXIT
-
-# instructions SCRIPT [STATUS]: those of one run of it, which has to end with this status, or 0
-instructions() {
-  local ended=0
-  valgrind --tool=callgrind --callgrind-out-file=/dev/null --log-file="$room/log" "$program" run <"$1" >/dev/null 2>&1 || ended=$?
-  [ "$ended" -eq "${2:-0}" ] || {
-    echo "bench: a run ended with status $ended" >&2
-    return 1
-  }
-  sed -n 's/^.*Collected : \([0-9]*\).*$/\1/p' "$room/log"
-}
+. bench/counting.sh
 
 # row WHAT COUNT WITHOUT [STATUS]: what the script in $room takes, of so many bytes or calls, less what one with none takes
 row() {
   local used
-  used=$(instructions "$room/script" "${4:-0}")
+  used=$(instructions "${4:-0}" run <"$room/script")
   used=$((used - $3))
   echo "| $1 | $2 | $used | $(awk -v all="$used" -v count="$2" 'BEGIN { printf "%.1f", all / count }') |"
 }
@@ -72,7 +58,7 @@ mixed() {
 echo '| input | bytes or calls | instructions | for each |'
 echo '|---|---|---|---|'
 script=examples/open_and_close.txt
-alone=$(instructions "$script")
+alone=$(instructions 0 run <"$script")
 size=$(wc -c <"$script")
 for total in 1048576 4194304; do
   { cat "$script"; comments $((total - size)); } >"$room/script"
@@ -81,9 +67,9 @@ for total in 1048576 4194304; do
 done
 mixed 20000 >"$room/script"
 size=$(wc -c <"$room/script")
-row '20,000 calls of all words, 64 workers, 10,000 files; read and not run' "$size" "$(instructions /dev/null)" 20
+row '20,000 calls of all words, 64 workers, 10,000 files; read and not run' "$size" "$(instructions 0 run </dev/null)" 20
 closed_at_once 0 >"$room/script"
-none=$(instructions "$room/script")
+none=$(instructions 0 run <"$room/script")
 for calls in 2000 20000; do
   closed_at_once "$calls" >"$room/script"
   row "$calls calls, each open closed at once" "$calls" "$none"

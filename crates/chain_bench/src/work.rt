@@ -5,8 +5,6 @@ use std::alloc::{AllocError, Global};
 /// What is done to a chain, over and over.
 #[derive(Clone, Copy)]
 pub enum Work {
-    /// Nothing.
-    Idle,
     /// Look a key up that is there.
     Find,
     /// Copy the chain.
@@ -26,7 +24,6 @@ pub enum Work {
 impl Work {
     pub fn named(word: &str) -> Option<Work> {
         match word {
-            "idle" => Some(Work::Idle),
             "find" => Some(Work::Find),
             "copy" => Some(Work::Copy),
             "replace" => Some(Work::Replace),
@@ -51,7 +48,6 @@ impl Work {
             let at = u64::from(turn).wrapping_mul(7919) % u64::from(pairs.max(1));
             let held = key(at.wrapping_mul(2));
             match self {
-                Work::Idle => {}
                 Work::Find => done = done.wrapping_add(u64::from(chain.find(&held).is_some())),
                 Work::Copy => {
                     let copy = chain.copy()?;

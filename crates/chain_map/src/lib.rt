@@ -13,7 +13,8 @@ pub use chain::Chain;
 pub use db::{Db, chain_of};
 pub use entries::ChainEntries;
 pub use laws::{
-    edits_keep_order, look_ups_after_put, look_ups_after_remove, look_ups_tell_chains_apart,
+    chains_of_two_records, edits_keep_order, look_ups_after_put, look_ups_after_remove,
+    look_ups_tell_chains_apart,
 };
 
 #[cfg(test)]

@@ -4,7 +4,8 @@ ghost use Rattle.std.specs.List.{list_any};
 use super::*;
 use std::test::Fail;
 
-// The two records by hand: 31 is 4 * 8 - 1, so in 8 chains a byte counts by its place, as itself or as its negative.
+// By hand: 31 is 4 * 8 - 1, so in 8 chains a byte counts by its place, as itself or as its negative. In 3 chains, which
+// don't divide 2^32, the last key goes to chain 18 if the hash isn't taken modulo 2^32 after each byte.
 #[test]
 fn keys_go_to_their_chains(rt: HostRuntime) {
     let lock_nine = [0, 0, 0, 0, 0, 0, 0, 9];
@@ -15,6 +16,23 @@ fn keys_go_to_their_chains(rt: HostRuntime) {
     assert_eq!(rt; chain_of(Db::Locking, &inode_eleven, 8), 20);
     assert_eq!(rt; chain_of(Db::Opens, &[], 64), 0);
     assert_eq!(rt; chain_of(Db::Mailbox, &[255; 8], 64), 384);
+    assert_eq!(rt; chain_of(Db::Mailbox, &[255; 8], 3), 20);
+}
+
+// The empty key goes to the first chain of each database.
+#[test]
+fn databases_follow_one_another(rt: HostRuntime) {
+    for (db, chain) in [
+        (Db::Opens, 0),
+        (Db::GLock, 8),
+        (Db::Locking, 16),
+        (Db::Leases, 24),
+        (Db::Register, 32),
+        (Db::Brlock, 40),
+        (Db::Mailbox, 48),
+    ] {
+        assert_eq!(rt; chain_of(db, &[], 8), chain);
+    }
 }
 
 fn moves_between_threads<T: Send + Sync>(_chain: &T) {}

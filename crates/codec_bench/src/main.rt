@@ -6,13 +6,14 @@
 mod work;
 
 use anyhow::{Context, Result};
+use work::Work;
 
 fn main(rt: HostRuntime) -> Result<()> {
     let alloc = rt.alloc();
     for line in rt.lines(alloc) {
         let line = line?;
         let mut words = line.as_str().split_whitespace();
-        let word = words.next().unwrap_or("");
+        let work = Work::named(words.next().unwrap_or("")).context("no such operation")?;
         let entries = words
             .next()
             .unwrap_or("")
@@ -20,10 +21,7 @@ fn main(rt: HostRuntime) -> Result<()> {
             .context("entries")?;
         let times = words.next().unwrap_or("").parse::<u32>().context("times")?;
         let bytes = work::record_bytes(alloc, entries)?;
-        match word {
-            "pack" => work::pack_often(alloc, bytes.as_slice(), times)?,
-            _ => work::unpack_often(alloc, bytes.as_slice(), times)?,
-        }
+        work.often(alloc, bytes.as_slice(), times)?;
         println!(rt; "{}", bytes.len())?;
     }
     Ok(())

@@ -7,6 +7,30 @@ const ENTRY: [u8; 54] = [
     0, 0, 0, 0, 5, 0, 0, 0, 0, 0, 0, 0, 60, 0, 0, 0, 100, 0, 0, 0, 0, 0, 0, 0,
 ];
 
+/// What is done to a record, over and over.
+#[derive(Clone, Copy)]
+pub enum Work {
+    Pack,
+    Unpack,
+}
+
+impl Work {
+    pub fn named(word: &str) -> Option<Work> {
+        match word {
+            "pack" => Some(Work::Pack),
+            "unpack" => Some(Work::Unpack),
+            _ => None,
+        }
+    }
+
+    pub fn often(self, alloc: Global, bytes: &[u8], times: u32) -> Result<(), Unpack> {
+        match self {
+            Work::Pack => pack_often(alloc, bytes, times),
+            Work::Unpack => unpack_often(alloc, bytes, times),
+        }
+    }
+}
+
 /// The record of file 1, `/srv/data` and `a.txt`, with so many entries.
 pub fn record_bytes(alloc: Global, entries: u32) -> Result<Vec<u8>, AllocError> {
     let mut bytes = Vec::new(alloc);
@@ -19,7 +43,7 @@ pub fn record_bytes(alloc: Global, entries: u32) -> Result<Vec<u8>, AllocError> 
     Ok(bytes)
 }
 
-pub fn pack_often(alloc: Global, bytes: &[u8], times: u32) -> Result<(), Unpack> {
+fn pack_often(alloc: Global, bytes: &[u8], times: u32) -> Result<(), Unpack> {
     let record = ShareRec::unpack(alloc, bytes)?;
     for _ in 0..times {
         let _packed = record.pack(alloc)?;
@@ -27,7 +51,7 @@ pub fn pack_often(alloc: Global, bytes: &[u8], times: u32) -> Result<(), Unpack>
     Ok(())
 }
 
-pub fn unpack_often(alloc: Global, bytes: &[u8], times: u32) -> Result<(), Unpack> {
+fn unpack_often(alloc: Global, bytes: &[u8], times: u32) -> Result<(), Unpack> {
     for _ in 0..times {
         let _record = ShareRec::unpack(alloc, bytes)?;
     }

@@ -1,7 +1,8 @@
 //! The program `opendb`.
 #![tactic(auto)]
 
-use opendb_run::{Open, RealSink, RealSource, Status, run};
+use opendb_run::{Open, RealSink, RealSource, Status, complain, run, write_all};
+use sid_core::Sink;
 use std::env::{self, Env};
 use std::io;
 use std::process::ExitCode;
@@ -10,13 +11,13 @@ use std::process::ExitCode;
 const NO_WORDS: u8 = 10;
 
 fn main(rt: HostRuntime) -> ExitCode {
+    let mut err = RealSink::new(rt.stderr());
     let words = match words(&rt) {
         Ok(words) => words,
-        Err(error) => return without_words(&rt, &error),
+        Err(error) => return without_words(&mut err, &error),
     };
     let mut source = RealSource::new(rt.stdin());
     let mut out = RealSink::new(rt.stdout());
-    let mut err = RealSink::new(rt.stderr());
     let status = run(
         rt.alloc(),
         words.as_slice(),
@@ -34,16 +35,16 @@ fn words<R: Env + AllocGlobal>(rt: &R) -> io::Result<Vec<String>> {
     Ok(words)
 }
 
-fn without_words<R: Eprint>(rt: &R, error: &io::Error) -> ExitCode {
-    match error.kind() {
-        io::ErrorKind::OutOfMemory => ExitCode::from(Status::OutOfMemory.code()),
-        io::ErrorKind::InvalidData => {
-            let _ = rt.eprintln("opendb: usage: run, smbstatus or stress");
-            ExitCode::from(Status::Usage.code())
-        }
+/// Tells on `err` why there are no words. A word that isn't UTF-8 is in no command.
+fn without_words<E: Sink>(err: &mut E, error: &io::Error) -> ExitCode {
+    let status = match error.kind() {
+        io::ErrorKind::OutOfMemory => Status::OutOfMemory,
+        io::ErrorKind::InvalidData => Status::Usage,
         _ => {
-            let _ = rt.eprintln("opendb: no words");
-            ExitCode::from(NO_WORDS)
+            let _ = write_all(err, b"opendb: no words\n");
+            return ExitCode::from(NO_WORDS);
         }
-    }
+    };
+    complain(err, status, 0, 0);
+    ExitCode::from(status.code())
 }

@@ -2,3 +2,4 @@ pub mod Appending
 pub mod Taking
 pub mod Playing
 pub mod Pieces
+pub mod Spelling

@@ -1,5 +1,5 @@
 -- The history that one thread makes is legal and fits the script.
-use Rattle.std.proofs.Common.{◌≡◌, ◌==◌, ℕ, zero, suc, ◌+◌, ◌<◌, Bool, true, false, cond, ◌&&◌, List, [], ◌∷◌, ◌++◌, length, drop, get_or, Some, None, refl, sym, ap, ◌∙◌, subst, append_assoc, arith}
+use Rattle.std.proofs.Common.{◌≡◌, ◌==◌, ℕ, zero, suc, ◌+◌, ◌<◌, Bool, true, false, cond, ◌&&◌, List, [], ◌∷◌, ◌++◌, length, drop, get_or, Some, None, is_some, refl, sym, ap, ◌∙◌, subst, append_assoc, arith}
 use Rattle.std.specs.List.{AllByRecursion}
 use Rattle.std.specs.Option.{option_map, option_map_or}
 use Rattle.std.proofs.lemmas.Grind.{flat_map-append}
@@ -8,7 +8,9 @@ use Rattle.sid_core.specs.declared.ids.Moment.{Moment}
 use Rattle.sid_core.specs.declared.entry.Entry.{Entry}
 use Rattle.sid_core.specs.declared.call.Call.{Call}
 use Rattle.sid_core.specs.declared.call.Call.TheVariants.{OpenFile, Close, Ack, Lock, Unlock, Read, Write, GLock, GUnlock, Recv, Disconnect, Reconnect, Scavenge, Tidy, Status}
+use Rattle.sid_core.specs.declared.reply.Reply.{Reply}
 use Rattle.sid_core.specs.declared.reply.Reply.TheVariants.{Unsuccessful}
+use Rattle.sid_core.specs.declared.entry.Event.TheVariants.{Called}
 use Rattle.sid_core.specs.declared.setup.Setup.{Setup}
 use Rattle.sid_core.specs.Setup.{IsDeclared}
 use Rattle.sid_core.specs.Values.{IsMoment}
@@ -18,14 +20,14 @@ use Rattle.serial_table.specs.View.{view}
 use Rattle.serial_table.specs.Decide.{is_served}
 use Rattle.serial_table.specs.Step.{caller_of, step}
 use Rattle.serial_table.specs.History as history
-use Rattle.serial_table.specs.History.{start, start_workers, called, after_entry, after_all, own_seq, seqs_of, RisesAbove, AreLegal, IsLegal, IsLegalEntry, IsLegalCall}
+use Rattle.serial_table.specs.History.{start, standings, called, after_event, after_entry, after_all, own_seq, seqs_of, RisesAbove, AreLegal, IsLegal, IsLegalEntry, IsLegalCall}
 use Rattle.serial_table.specs.Text.{block, text_from}
 use Rattle.worker_script.specs.declared.script.Planned.{Planned}
 use Rattle.worker_script.specs.declared.script.Phase.{Phase}
 use Rattle.worker_script.specs.declared.script.Script.{Script}
 use Rattle.worker_script.specs.Script as planned
-use Rattle.worker_script.specs.Script.{all_calls, IsBuiltCall, IsPlanned, IsPhase, IsScript}
-use Rattle.worker_script.specs.Fits.{calls_of, planned_of, own_plan, is_entered, IsAt, IsNoDeath, IsTidiedBy, FitsPhase, FitsPhases}
+use Rattle.worker_script.specs.Script.{all_calls, is_built, IsPlanned, IsPhase, IsScript}
+use Rattle.worker_script.specs.Fits.{calls_of, planned_of, own_plan, is_entered, deaths_of, stops_of, CallsBeforeDeath, IsAt, IsTidiedBy, FitsPhase, FitsPhases, AreEnteredByLiving}
 use Rattle.opendb_run.specs.Play.{entry_of, entries_of, history_from, Prints}
 
 -- ---- numbers
@@ -72,63 +74,66 @@ module _ (setup : Setup) (worker : ℕ) where
 
 -- ---- each entry is legal
 
-served_is : (call : Call) → IsBuiltCall call → is_served call ≡ true
-served_is (OpenFile file access share (Some lease) durable overwrite) b = absurd (let e : Some lease ≡ None = b.0 in cc)
-served_is (OpenFile file access share None zero true) b = absurd (let e : true ≡ false = b.2 in cc)
+served_is : (call : Call) → is_built call ≡ true → is_served call ≡ true
+served_is (OpenFile file access share (Some lease) durable overwrite) b = cc
+served_is (OpenFile file access share None zero true) b = cc
 served_is (OpenFile file access share None zero false) b = refl
-served_is (OpenFile file access share None (suc n) overwrite) b = absurd (let e : suc n ≡ 0 = b.1 in omega arith)
+served_is (OpenFile file access share None (suc n) overwrite) b = cc
 served_is (Close handle) b = refl
-served_is (Ack key state) b = absurd b
-served_is (Lock handle span mode wait) b = absurd b
-served_is (Unlock handle span) b = absurd b
-served_is (Read handle span) b = absurd b
-served_is (Write handle span) b = absurd b
-served_is (GLock key mode wait) b = absurd b
-served_is (GUnlock key) b = absurd b
-served_is Recv b = absurd b
-served_is Disconnect b = absurd b
-served_is (Reconnect worker call key) b = absurd b
-served_is Scavenge b = absurd b
-served_is Tidy b = absurd b
-served_is (Status tables) b = absurd b
+served_is (Ack key state) b = cc
+served_is (Lock handle span mode wait) b = cc
+served_is (Unlock handle span) b = cc
+served_is (Read handle span) b = cc
+served_is (Write handle span) b = cc
+served_is (GLock key mode wait) b = cc
+served_is (GUnlock key) b = cc
+served_is Recv b = cc
+served_is Disconnect b = cc
+served_is (Reconnect worker call key) b = cc
+served_is Scavenge b = cc
+served_is Tidy b = cc
+served_is (Status tables) b = cc
 
 module _ (setup : Setup)
-    (calls_there : (t : Table) (worker number : ℕ) (moment : Moment) → t.workers ≡ start_workers 1 setup.workers → IsDeclared setup.workers worker → (caller : Caller) × (caller_of setup (view t) worker number moment ≡ Some caller))
-    (stay : (t : Table) (entry : Entry) → (after_entry setup t entry).workers ≡ t.workers) where
-  entry_is_legal : (t : Table) (moment : Moment) (p : Planned) → t.workers ≡ start_workers 1 setup.workers → IsMoment moment.0 → IsPlanned setup p → IsLegalEntry setup t (entry_of setup t moment p)
+    (calls_there : (t : Table) (worker number : ℕ) (moment : Moment) → standings t ≡ standings (start setup) → IsDeclared setup.workers worker → (caller : Caller) × (caller_of setup (view t) worker number moment ≡ Some caller))
+    (stay : (t : Table) (worker number : ℕ) (moment : Moment) (call : Call) (reply : Reply) → standings (after_event setup t worker (Called number moment call reply)) ≡ standings t) where
+  entry_is_legal : (t : Table) (moment : Moment) (p : Planned) → standings t ≡ standings (start setup) → IsMoment moment.0 → IsPlanned setup p → IsLegalEntry setup t (entry_of setup t moment p)
   entry_is_legal t moment p w m h =
       let there = calls_there t p.worker p.number moment w h.worker in
       record {
         numbered = h.number;
         timed = m;
         in_sets = h.call;
-        served = served_is p.call h.built;
+        served = served_is p.call h.built.call;
         answered = record {
           caller = there.0;
           is_caller = there.1;
-          answered = ap (λ o. option_map_or (λ stepped. stepped.reply) (option_map (λ caller. step t caller p.call) o) Unsuccessful) (sym there.1);
+          answered = ap (λ o. option_map_or (λ stepped. stepped.reply) (option_map (λ caller. step setup t caller p.call) o) Unsuccessful) (sym there.1);
         };
       }
 
-  workers_after : (t : Table) (entries : List Entry) → (after_all setup t entries).workers ≡ t.workers
-  workers_after t [] = refl
-  workers_after t (entry ∷ entries) = workers_after (after_entry setup t entry) entries ∙ stay t entry
+  stay_after : (t : Table) (moment : Moment) (p : Planned) → standings (after_entry setup t (entry_of setup t moment p)) ≡ standings t
+  stay_after t moment p = stay t p.worker p.number moment p.call (option_map_or (λ stepped. stepped.reply) (called setup t p.worker p.number moment p.call) Unsuccessful)
 
-  phase_is_legal : (t : Table) (moment : Moment) (calls : List Planned) → t.workers ≡ start_workers 1 setup.workers → IsMoment moment.0 → AllByRecursion (IsPlanned setup) calls → AreLegal setup t (entries_of setup t moment calls)
+  all_stay : (t : Table) (moment : Moment) (calls : List Planned) → standings (after_all setup t (entries_of setup t moment calls)) ≡ standings t
+  all_stay t moment [] = refl
+  all_stay t moment (p ∷ calls) = all_stay (after_entry setup t (entry_of setup t moment p)) moment calls ∙ stay_after t moment p
+
+  phase_is_legal : (t : Table) (moment : Moment) (calls : List Planned) → standings t ≡ standings (start setup) → IsMoment moment.0 → AllByRecursion (IsPlanned setup) calls → AreLegal setup t (entries_of setup t moment calls)
   phase_is_legal t moment [] w m all = tt
   phase_is_legal t moment (p ∷ calls) w m all =
-      (entry_is_legal t moment p w m all.0, phase_is_legal (after_entry setup t (entry_of setup t moment p)) moment calls (stay t (entry_of setup t moment p) ∙ w) m all.1)
+      (entry_is_legal t moment p w m all.0, phase_is_legal (after_entry setup t (entry_of setup t moment p)) moment calls (stay_after t moment p ∙ w) m all.1)
 
   legal-append : (t : Table) (xs ys : List Entry) → AreLegal setup t xs → AreLegal setup (after_all setup t xs) ys → AreLegal setup t (xs ++ ys)
   legal-append t [] ys a b = b
   legal-append t (x ∷ xs) ys a b = (a.0, legal-append (after_entry setup t x) xs ys a.1 b)
 
-  phases_are_legal : (t : Table) (phases : List Phase) → t.workers ≡ start_workers 1 setup.workers → AllByRecursion (IsPhase setup) phases → AreLegal setup t (history_from setup t phases)
+  phases_are_legal : (t : Table) (phases : List Phase) → standings t ≡ standings (start setup) → AllByRecursion (IsPhase setup) phases → AreLegal setup t (history_from setup t phases)
   phases_are_legal t [] w all = tt
   phases_are_legal t (phase ∷ phases) w all =
       legal-append t (entries_of setup t phase.moment phase.calls) (history_from setup (after_all setup t (entries_of setup t phase.moment phase.calls)) phases)
       (phase_is_legal t phase.moment phase.calls w all.0.moment all.0.calls)
-      (phases_are_legal (after_all setup t (entries_of setup t phase.moment phase.calls)) phases (workers_after t (entries_of setup t phase.moment phase.calls) ∙ w) all.1)
+      (phases_are_legal (after_all setup t (entries_of setup t phase.moment phase.calls)) phases (all_stay t phase.moment phase.calls ∙ w) all.1)
 
 -- ---- it fits
 
@@ -137,9 +142,36 @@ module _ (setup : Setup) where
   at_moment t moment [] = tt
   at_moment t moment (p ∷ calls) = (refl, at_moment (after_entry setup t (entry_of setup t moment p)) moment calls)
 
-  nobody_dies : (t : Table) (moment : Moment) (calls : List Planned) → AllByRecursion (λ entry. IsNoDeath entry.what) (entries_of setup t moment calls)
-  nobody_dies t moment [] = tt
-  nobody_dies t moment (p ∷ calls) = (tt, nobody_dies (after_entry setup t (entry_of setup t moment p)) moment calls)
+  nobody_dies : (worker : ℕ) (t : Table) (moment : Moment) (calls : List Planned) → deaths_of worker (entries_of setup t moment calls) ≡ 0
+  nobody_dies worker t moment [] = refl
+  nobody_dies worker t moment (p ∷ calls) =
+      let others = nobody_dies worker (after_entry setup t (entry_of setup t moment p)) moment calls in omega (arith, others)
+
+  never : (b : Bool) → ◌≡◌ {A = ℕ} (cond (b && false) 1 0) 0
+  never true = refl
+  never false = refl
+
+  no_stops : (worker : ℕ) (calls : List Planned) → AllByRecursion (IsPlanned setup) calls → stops_of worker calls ≡ 0
+  no_stops worker [] all = refl
+  no_stops worker (p ∷ calls) all =
+      let one : ◌≡◌ {A = ℕ} (cond ((p.worker == worker) && is_some p.stop) 1 0) 0 = rw all.0.built.no_stop (never (p.worker == worker)) in
+      let others = no_stops worker calls all.1 in
+      omega (arith, one, others)
+
+  calls_last : (worker : ℕ) (t : Table) (moment : Moment) (calls : List Planned) → CallsBeforeDeath worker (entries_of setup t moment calls)
+  calls_last worker t moment [] = tt
+  calls_last worker t moment (p ∷ calls) =
+      ((λ e. absurd (let never : false ≡ true = e in cc)), calls_last worker (after_entry setup t (entry_of setup t moment p)) moment calls)
+
+  nobody_enters : (others : List Entry) (t : Table) (moment : Moment) (calls : List Planned) → AreEnteredByLiving setup [] others → AreEnteredByLiving setup [] (entries_of setup t moment calls ++ others)
+  nobody_enters others t moment [] rest = rest
+  nobody_enters others t moment (p ∷ calls) rest = (tt, nobody_enters others (after_entry setup t (entry_of setup t moment p)) moment calls rest)
+
+  phases_enter : (t : Table) (phases : List Phase) → AreEnteredByLiving setup [] (history_from setup t phases)
+  phases_enter t [] = tt
+  phases_enter t (phase ∷ phases) =
+      nobody_enters (history_from setup (after_all setup t (entries_of setup t phase.moment phase.calls)) phases) t phase.moment phase.calls
+      (phases_enter (after_all setup t (entries_of setup t phase.moment phase.calls)) phases)
 
   nobody_tidies : (all : List Planned) (t : Table) (moment : Moment) (calls : List Planned) → AllByRecursion (IsTidiedBy all) (entries_of setup t moment calls)
   nobody_tidies all t moment [] = tt
@@ -157,14 +189,15 @@ module _ (setup : Setup) where
   as_planned : (worker : ℕ) (t : Table) (moment : Moment) (calls : List Planned) → AllByRecursion (IsPlanned setup) calls → calls_of worker (entries_of setup t moment calls) ≡ planned_of worker calls
   as_planned worker t moment [] all = refl
   as_planned worker t moment (p ∷ calls) all =
-      ap (λ own. own ++ calls_of worker (entries_of setup (after_entry setup t (entry_of setup t moment p)) moment calls)) (own_plan_is worker p all.0.no_stop)
+      ap (λ own. own ++ calls_of worker (entries_of setup (after_entry setup t (entry_of setup t moment p)) moment calls)) (own_plan_is worker p all.0.built.no_stop)
       ∙ ap (λ others. own_plan worker p ++ others) (as_planned worker (after_entry setup t (entry_of setup t moment p)) moment calls all.1)
 
   phase_fits : (t : Table) (phase : Phase) → IsPhase setup phase → FitsPhase phase (entries_of setup t phase.moment phase.calls)
   phase_fits t phase h = record {
     moment = at_moment t phase.moment phase.calls;
     calls = λ worker. as_planned worker t phase.moment phase.calls h.calls;
-    deaths = nobody_dies t phase.moment phase.calls;
+    deaths = λ worker. nobody_dies worker t phase.moment phase.calls ∙ sym (no_stops worker phase.calls h.calls);
+    last = λ worker. calls_last worker t phase.moment phase.calls;
     tidied = nobody_tidies phase.calls t phase.moment phase.calls;
   }
 
@@ -179,8 +212,8 @@ module _ (setup : Setup) where
   )
 
 pub play_prints : (script : Script) (printed : List ℕ) → IsScript script
-    → ((setup : Setup) (t : Table) (worker number : ℕ) (moment : Moment) → t.workers ≡ start_workers 1 setup.workers → IsDeclared setup.workers worker → (caller : Caller) × (caller_of setup (view t) worker number moment ≡ Some caller))
-    → ((setup : Setup) (t : Table) (entry : Entry) → (after_entry setup t entry).workers ≡ t.workers)
+    → ((setup : Setup) (t : Table) (worker number : ℕ) (moment : Moment) → standings t ≡ standings (start setup) → IsDeclared setup.workers worker → (caller : Caller) × (caller_of setup (view t) worker number moment ≡ Some caller))
+    → ((setup : Setup) (t : Table) (worker number : ℕ) (moment : Moment) (call : Call) (reply : Reply) → standings (after_event setup t worker (Called number moment call reply)) ≡ standings t)
     → printed ≡ text_from script.setup (start script.setup) (history_from script.setup (start script.setup) script.phases) → Prints script printed
 play_prints script printed h calls_there stay e =
     let setup = script.setup in
@@ -192,7 +225,10 @@ play_prints script printed h calls_there stay e =
         counted = λ by. subst (history.CountsFrom 1) (sym (seqs_are script.setup by (start script.setup) script.phases)) (numbers_count 1 (planned.numbers_of by (all_calls script.phases)) (h.numbered by));
         rising = λ by. subst (RisesAbove 0) (sym (numbers_are script.setup by (start script.setup) script.phases)) (numbers_rise 0 (planned.numbers_of by (all_calls script.phases)) (h.numbered by));
       };
-      fits = phases_fit script.setup (start script.setup) script.phases h.phases;
+      fits = record {
+        phases = phases_fit script.setup (start script.setup) script.phases h.phases;
+        entered = phases_enter script.setup (start script.setup) script.phases;
+      };
       printed_is = e;
     }
 

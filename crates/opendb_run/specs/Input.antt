@@ -1,7 +1,7 @@
 -- What reading an input to its end has taken, and what it may answer.
 use Rattle.std.specs.Prelude.{◌≡◌, ℕ, ◌+◌, ◌<◌, ◌≤◌, Option, None, Some, List, [], length}
 use Rattle.std.specs.Io.KnownBytes.{Consumes}
-use Rattle.opendb_run.specs.declared.input.TheConstants.{LIMIT}
+use Rattle.worker_script.specs.declared.parsing.TheConstants.{LIMIT}
 use Rattle.opendb_run.specs.declared.input.InputError.{InputError}
 use Rattle.opendb_run.specs.declared.input.InputError.TheVariants.{TooLarge, ReadFault, OutOfMemory}
 

@@ -1,13 +1,12 @@
 ghost use Rattle.std.specs.Prelude.{◌≡◌, ◌≤◌, length, IfOk, IfErr, IfSome, IsErrOf};
 ghost use Rattle.sid_core.specs.Faults.{Rose};
 ghost use Rattle.opendb_run.specs.declared.input.InputError.TheVariants.{OutOfMemory, ReadFault};
+ghost use Rattle.worker_script.specs.declared.parsing.TheConstants.{LIMIT};
 ghost use Rattle.opendb_run.specs.Input.{TakesAll, TakesBefore, Refuses};
 
 use sid_core::{Failed, Source};
 use std::alloc::{AllocError, Global};
-
-/// How many bytes an input may have.
-pub const LIMIT: usize = 4_194_304;
+use worker_script::LIMIT;
 
 /// How many bytes are asked for at once.
 const CHUNK: usize = 8192;
@@ -19,7 +18,7 @@ pub enum InputError {
     TooLarge,
     /// A read failed.
     ReadFault,
-    /// The allocator refused.
+    /// It can come whenever the allocator refuses. No clause says when.
     OutOfMemory,
 }
 
@@ -39,7 +38,7 @@ impl From<AllocError> for InputError {
     }
 }
 
-/// Reads the source to its end, in time that is linear in the bytes, however few a read gives.
+/// Reads the source to its end. No byte is read twice. That the time is linear in the bytes is measured, not proved.
 pub fn read_all<S: Source>(alloc: Global, source: &mut S) -> Result<Vec<u8>, InputError>
     ensures whole { IfOk result (λ bytes.
         TakesAll (S.left source.old) (S.left source.new) bytes.items) }

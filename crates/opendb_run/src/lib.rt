@@ -15,7 +15,7 @@ mod words;
 
 pub use adapters::{RealSink, RealSource};
 pub use gate::Open;
-pub use input::{InputError, LIMIT, read_all};
+pub use input::{InputError, read_all};
 pub use memory::{Bytes, Page};
 pub use output::write_all;
 pub use status::{Status, complain};

@@ -1,7 +1,7 @@
 ghost use Rattle.std.specs.Prelude.{◌≡◌, ◌≤◌, ◌++◌, [], length, OnOk, IfOk};
 ghost use Rattle.std.specs.List.{AllByRecursion};
 ghost use Rattle.sid_core.specs.Setup.{IsSetup};
-ghost use Rattle.serial_table.specs.History.{start, start_workers, after_entry, after_all};
+ghost use Rattle.serial_table.specs.History.{start, standings, after_entry, after_all};
 ghost use Rattle.serial_table.specs.Text.{block, text_from};
 ghost use Rattle.worker_script.specs.Script.{IsPlanned, IsPhase, IsScript};
 ghost use Rattle.opendb_run.specs.Play.{entry_of, entries_of, history_from, Prints};
@@ -23,15 +23,15 @@ fn answer<G: Gate>(
 ) -> Result<(), OutOfMemory>
     requires few { length setup.now.workers ≤ 64 }
     requires planned { IsPlanned setup.now planned.now }
-    requires workers { table.old.workers ≡ start_workers 1 setup.now.workers }
+    requires nobody_died { standings table.old ≡ standings (start setup.now) }
     ensures table { OnOk result (table.new ≡ after_entry setup.now table.old (entry_of setup.now table.old moment planned.now)) }
     ensures text { OnOk result (text.new ≡ text.old ++ block setup.now table.old (entry_of setup.now table.old moment planned.now)) }
-    ensures workers { table.new.workers ≡ table.old.workers }
+    ensures nobody_dies { standings table.new ≡ standings table.old }
 {
     let Some(caller) = table.caller(setup, planned.worker, planned.number, moment) else {
         unreachable!();
     };
-    let (reply, posts) = table.call(&caller, planned.call)?;
+    let (reply, posts) = table.call(setup, &caller, planned.call)?;
     push_call_line(text, planned.worker, planned.number, &planned.call, reply)?;
     push_post_lines(text, setup, posts.as_slice())?;
     gate.at(planned.worker, planned.number, StepKind::Answered);
@@ -47,10 +47,10 @@ fn play_phase<G: Gate>(
 ) -> Result<(), OutOfMemory>
     requires few { length setup.now.workers ≤ 64 }
     requires phase { IsPhase setup.now phase.now }
-    requires workers { table.old.workers ≡ start_workers 1 setup.now.workers }
+    requires nobody_died { standings table.old ≡ standings (start setup.now) }
     ensures table { OnOk result (table.new ≡ after_all setup.now table.old (entries_of setup.now table.old phase.now.moment phase.now.calls)) }
     ensures text { OnOk result (text.new ≡ text.old ++ text_from setup.now table.old (entries_of setup.now table.old phase.now.moment phase.now.calls)) }
-    ensures workers { table.new.workers ≡ table.old.workers }
+    ensures nobody_dies { standings table.new ≡ standings table.old }
 {
     for planned in phase.calls.as_slice() {
         answer(table, text, setup, phase.moment, planned, gate)?;

@@ -24,7 +24,7 @@ pub enum Status {
     ReadFault,
     /// A write of the output failed.
     WriteFault,
-    /// The allocator refused.
+    /// It can come whenever the allocator refuses. No clause says when.
     OutOfMemory,
     /// The script has a line of a form that isn't built.
     NotBuilt,

@@ -1,11 +1,13 @@
 use super::*;
 use crate::lines::{push_call_line, push_post_lines};
 use sid_core::{
-    Access, Call, Items, LeaseState, Letter, Post, Reply, Setup, Share, Sid, Sink, Span, Text,
-    WorkerInfo,
+    Access, Call, Gate, Items, LeaseState, Letter, Post, Reply, Setup, Share, Sid, Sink, Span,
+    StepKind, Text, WorkerInfo,
 };
 use std::alloc::Global;
+use std::cell::Cell;
 use std::test::Fail;
+use worker_script::LIMIT;
 
 #[test]
 fn an_input_is_read_within_its_limit(rt: HostRuntime) -> Result<(), Fail> {
@@ -229,11 +231,12 @@ fn a_history_prints_its_lines(rt: HostRuntime) -> Result<(), Fail> {
 const DECLARED: &[u8] =
     b"worker 1 101 1000 1 hostA data\nworker 2 102 1001 2 hostB data\nfile 1 1 11 /srv/data a.txt\nfile 2 1 12 /srv/data b.txt\n";
 
-fn said(
+fn said<G: Gate>(
     alloc: Global,
     words: &[&str],
     parts: &[&[u8]],
     failing: Vec<u64>,
+    gate: &G,
 ) -> Result<(Status, Page, Page), Fail> {
     let mut owned = Vec::new(alloc);
     for word in words {
@@ -252,7 +255,7 @@ fn said(
         &mut source,
         &mut out,
         &mut err,
-        &Open,
+        gate,
     );
     Ok((status, out, err))
 }
@@ -307,6 +310,7 @@ fn runs_scripts(rt: HostRuntime) -> Result<(), Fail> {
             &["run"],
             &[DECLARED, script],
             Vec::new(rt.alloc()),
+            &Open,
         )?;
         assert_eq!(rt; ended, status);
         assert_eq!(rt; out.bytes(), printed);
@@ -318,7 +322,7 @@ fn runs_scripts(rt: HostRuntime) -> Result<(), Fail> {
 #[test]
 fn tells_why_a_script_was_not_run(rt: HostRuntime) -> Result<(), Fail> {
     let second = vec![in rt.alloc(); 2]?;
-    let (ended, out, err) = said(rt.alloc(), &["run"], &[DECLARED], second)?;
+    let (ended, out, err) = said(rt.alloc(), &["run"], &[DECLARED], second, &Open)?;
     assert_eq!(rt; ended, Status::ReadFault);
     assert_eq!(rt; out.bytes(), b"".as_slice());
     assert_eq!(rt; err.bytes(), b"opendb: read fault\n".as_slice());
@@ -330,13 +334,67 @@ fn tells_why_a_script_was_not_run(rt: HostRuntime) -> Result<(), Fail> {
         &["Run"],
     ];
     for words in cases {
-        let (ended, out, err) = said(rt.alloc(), words, &[DECLARED], Vec::new(rt.alloc()))?;
+        let (ended, out, err) = said(rt.alloc(), words, &[DECLARED], Vec::new(rt.alloc()), &Open)?;
         assert_eq!(rt; ended, Status::Usage);
         assert_eq!(rt; out.bytes(), b"".as_slice());
         assert_eq!(rt;
             err.bytes(),
             b"opendb: usage: run, smbstatus or stress\n".as_slice()
         );
+    }
+    Ok(())
+}
+
+/// A gate that counts what it is told: the answers of worker 1 that come in the order of its calls, and all else.
+#[derive(Drop)]
+struct Counting {
+    answered: Cell<u32>,
+    others: Cell<u32>,
+}
+
+impl Gate for Counting {
+    fn at(&self, worker: u32, number: u32, step: StepKind) {
+        let next = self.answered.get().saturating_add(1);
+        if worker == 1 && number == next && step == StepKind::Answered {
+            self.answered.set(next);
+        } else {
+            self.others.set(self.others.get().saturating_add(1));
+        }
+    }
+}
+
+// The gate is told of each answer, once and in order, and of nothing else.
+#[test]
+fn the_gate_is_told_of_each_answer(rt: HostRuntime) -> Result<(), Fail> {
+    let cases: [(&[u8], Status, u32); 4] = [
+        (
+            b"phase 0\n1 open 1 0x3 rwd\n1 close 1\n1 close 1\n",
+            Status::Done,
+            3,
+        ),
+        (
+            b"phase 0\n1 open 1 0x3 rwd\nphase 1\n1 close 1\n",
+            Status::Done,
+            2,
+        ),
+        (b"phase 0\n", Status::Done, 0),
+        (b"phase 0\n1 open 1 0x3 rwd\n1 recv\n", Status::NotBuilt, 0),
+    ];
+    for (script, status, wanted) in cases {
+        let gate = Counting {
+            answered: Cell::new(0),
+            others: Cell::new(0),
+        };
+        let (ended, _out, _err) = said(
+            rt.alloc(),
+            &["run"],
+            &[DECLARED, script],
+            Vec::new(rt.alloc()),
+            &gate,
+        )?;
+        assert_eq!(rt; ended, status);
+        assert_eq!(rt; gate.answered.get(), wanted);
+        assert_eq!(rt; gate.others.get(), 0);
     }
     Ok(())
 }

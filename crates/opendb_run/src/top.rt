@@ -1,12 +1,13 @@
-ghost use Rattle.std.specs.Prelude.{◌≡◌, ◌↔◌, ◌≤◌, ℕ, IsTrue, IfSome, length, map, string_bytes, Some, None};
+ghost use Rattle.std.specs.Prelude.{◌≡◌, ◌↔◌, ◌≤◌, ◌⊎◌, ℕ, IsTrue, IfSome, List, length, map, string_bytes, Some, None};
 ghost use Rattle.std.specs.Io.KnownBytes.{Appends};
 ghost use Rattle.sid_core.specs.Faults.{Rose};
 ghost use Rattle.worker_script.specs.Script.{IsScript};
 ghost use Rattle.opendb_run.specs.Words.{command};
 ghost use Rattle.opendb_run.specs.Status.{complaint};
 ghost use Rattle.opendb_run.specs.Input.{TakesBefore};
-ghost use Rattle.opendb_run.specs.declared.input.TheConstants.{LIMIT};
-ghost use Rattle.opendb_run.specs.Run.{HasRun, ReadsScript, BreaksAt, StopsAt, IsExpected, is_silent, ScriptEnded, BytesEnded, InputEnded};
+ghost use Rattle.opendb_run.specs.Output.{AppendsPrefix};
+ghost use Rattle.worker_script.specs.declared.parsing.TheConstants.{LIMIT};
+ghost use Rattle.opendb_run.specs.Run.{HasRun, BreaksAt, StopsAt, IsExpected, is_silent, ScriptEnded, BytesEnded, InputEnded};
 
 use crate::input::{InputError, read_all};
 use crate::output::write_all;
@@ -29,6 +30,7 @@ struct Ending {
 fn run_script<O: Sink, G: Gate>(alloc: Global, script: &Script, out: &mut O, gate: &G) -> Status
     requires { IsScript script.now }
     ensures ended { ScriptEnded script.now (O.written out.old) (O.written out.new) (Rose (O.faults out.old) (O.faults out.new)) result }
+    ensures complete { (Rose (O.faults out.old) (O.faults out.new) → ⊥) → (result ≡ Status.OutOfMemory) ⊎ (result ≡ Status.Done) }
     ensures faults { O.faults out.old ≤ O.faults out.new }
 {
     let Ok(text) = play(alloc, script, gate) else {
@@ -41,9 +43,11 @@ fn run_script<O: Sink, G: Gate>(alloc: Global, script: &Script, out: &mut O, gat
 }
 
 /// Runs the script that the bytes spell.
+#[tactic(auto, using(crate::proofs::Spelling::script_of_answer, crate::proofs::Spelling::bad_of_answer))]
 fn run_bytes<O: Sink, G: Gate>(alloc: Global, bytes: &[u8], out: &mut O, gate: &G) -> Ending
     requires { length bytes.now ≤ LIMIT }
     ensures ended { BytesEnded bytes.now (O.written out.old) (O.written out.new) (Rose (O.faults out.old) (O.faults out.new)) result.status result.line result.reason }
+    ensures complete { (Rose (O.faults out.old) (O.faults out.new) → ⊥) → IsExpected result.status bytes.now }
     ensures faults { O.faults out.old ≤ O.faults out.new }
 {
     match parse(alloc, bytes) {
@@ -79,6 +83,8 @@ fn run_input<S: Source, O: Sink, G: Gate>(
 ) -> Ending
     ensures ended { InputEnded (S.left source.old) (S.left source.new) (O.written out.old) (O.written out.new)
         (Rose (S.faults source.old) (S.faults source.new)) (Rose (O.faults out.old) (O.faults out.new)) result.status result.line result.reason }
+    ensures complete { IfSome (S.left source.old) (λ bytes.
+        (Rose (S.faults source.old) (S.faults source.new) → ⊥) → (Rose (O.faults out.old) (O.faults out.new) → ⊥) → IsExpected result.status bytes) }
     ensures source_faults { S.faults source.old ≤ S.faults source.new }
     ensures out_faults { O.faults out.old ≤ O.faults out.new }
 {
@@ -103,16 +109,19 @@ pub fn run<S: Source, O: Sink, E: Sink, G: Gate>(
     gate: &G,
 ) -> Status
     // The source was read to its end, its bytes spell a script, and `out` gained the text of a legal history that fits it.
-    ensures done { result ≡ Status.Done → HasRun (S.left source.old) (S.left source.new) (O.written out.old) (O.written out.new) }
+    ensures done { result ≡ Status.Done → (printed : List ℕ)
+        × HasRun (S.left source.old) (S.left source.new) printed × Appends (O.written out.old) (O.written out.new) printed }
     ensures usage { (result ≡ Status.Usage) ↔ (command (map string_bytes words.now) ≡ None) }
     ensures bad_script { result ≡ Status.BadScript → (line : ℕ) × (reason : ℕ)
         × BreaksAt (S.left source.old) (S.left source.new) line reason }
     ensures not_built { result ≡ Status.NotBuilt → (line : ℕ) × StopsAt (S.left source.old) (S.left source.new) line }
     ensures too_large { result ≡ Status.TooLarge → TakesBefore (S.left source.old) (S.left source.new) InputError.TooLarge }
-    ensures read_fault { result ≡ Status.ReadFault → Rose (S.faults source.old) (S.faults source.new) }
-    ensures write_fault { result ≡ Status.WriteFault → Rose (O.faults out.old) (O.faults out.new) × ReadsScript (S.left source.old) (S.left source.new) }
+    ensures read_fault { result ≡ Status.ReadFault → Rose (S.faults source.old) (S.faults source.new)
+        × TakesBefore (S.left source.old) (S.left source.new) InputError.ReadFault }
+    ensures write_fault { result ≡ Status.WriteFault → Rose (O.faults out.old) (O.faults out.new) × (printed : List ℕ)
+        × HasRun (S.left source.old) (S.left source.new) printed × AppendsPrefix (O.written out.old) (O.written out.new) printed }
 
-    // Where no read and no write failed, the bytes decide how it ends, but for want of memory.
+    // Where the words are `run`, and no read and no write failed, the bytes decide how it ends, but for want of memory.
     ensures complete { command (map string_bytes words.now) ≡ Some Command.Run → IfSome (S.left source.old) (λ bytes.
         (Rose (S.faults source.old) (S.faults source.new) → ⊥) → (Rose (O.faults out.old) (O.faults out.new) → ⊥) → IsExpected result bytes) }
 
@@ -124,7 +133,7 @@ pub fn run<S: Source, O: Sink, E: Sink, G: Gate>(
 
     // Nothing is printed with the other statuses.
     ensures silent { IsTrue (is_silent result) → O.written out.new ≡ O.written out.old }
-    ensures untouched { result ≡ Status.Usage → S.left source.new ≡ S.left source.old }
+    ensures untouched { result ≡ Status.Usage → source.new ≡ source.old }
     ensures source_faults { S.faults source.old ≤ S.faults source.new }
     ensures out_faults { O.faults out.old ≤ O.faults out.new }
     ensures err_faults { E.faults err.old ≤ E.faults err.new }

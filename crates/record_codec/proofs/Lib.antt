@@ -13,3 +13,4 @@ pub mod RangeExact
 pub mod MailExact
 pub mod Sizes
 pub mod Sets
+pub mod CountsExamples

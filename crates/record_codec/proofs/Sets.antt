@@ -1,14 +1,15 @@
--- The sets of texts, access rights and lease states, as tests and as facts.
+-- The sets of texts, access rights, share bits, lease states and moments, as tests and as facts.
 use Rattle.std.proofs.Common.{◌≡◌, ℕ, ◌^◌, ◌<◌, ◌≤◌, Bool, true, false, ◌&&◌, ◌||◌, eqb, ltb, leb, List, [], ◌∷◌, length, refl, lit<, arith}
 use Rattle.std.specs.Prelude.{◌↔◌, bit_and}
 use Rattle.std.specs.List.{AllByRecursion, list_all}
 use Rattle.std.proofs.lemmas.Bool.{eqb-true, eq-eqb, leb-true, le-leb, ltb-true, lt-ltb}
 use Rattle.std.proofs.lemmas.Nat.{and_le_r}
 use Rattle.sid_core.specs.declared.bits.Access.{Access}
+use Rattle.sid_core.specs.declared.bits.Share.{Share}
 use Rattle.sid_core.specs.declared.bits.LeaseState.{LeaseState}
-use Rattle.sid_core.specs.Values.{IsText, IsPrintable, IsAccess, IsState, is_state}
-use Rattle.record_codec.specs.Fields.{text, is_printable, state}
-use Rattle.record_codec.specs.Share.{access}
+use Rattle.sid_core.specs.Values.{IsText, IsPrintable, IsAccess, IsShare, IsState, IsMoment, is_state}
+use Rattle.record_codec.specs.Fields.{text, is_printable, is_moment, u64_in, state}
+use Rattle.record_codec.specs.Share.{access, share_bits}
 use Rattle.record_codec.proofs.Fields.{both}
 
 and : (a b : Bool) → a ≡ true → b ≡ true → (a && b) ≡ true
@@ -69,3 +70,25 @@ small_state n =
 
 pub states : (field : ℕ) (held : LeaseState) → (state field).valid held ↔ IsState held.0
 states field held = (λ v. v.1, λ s. (small_state held.0 s, s))
+
+share_fact : (field : ℕ) (share : Share) → (share_bits field).valid share → IsShare share.0
+share_fact field share v =
+    let p = both (leb 0 share.0) (leb share.0 7) v.1 in
+    omega (arith, leb-true _ _ p.1)
+
+share_test : (field : ℕ) (share : Share) → IsShare share.0 → (share_bits field).valid share
+share_test field share s =
+    let most : share.0 ≤ 7 = omega (arith, s) in
+    let small : share.0 < 256 ^ 1 = omega (arith, s) in
+    (small, and (leb 0 share.0) (leb share.0 7) (le-leb 0 share.0 (omega arith)) (le-leb _ _ most))
+
+pub shares : (field : ℕ) (share : Share) → (share_bits field).valid share ↔ IsShare share.0
+shares field share = (share_fact field share, share_test field share)
+
+moment_test : (field moment : ℕ) → IsMoment moment → (u64_in field is_moment).valid moment
+moment_test field moment m =
+    let small : moment < 256 ^ 8 = omega (arith, m) in
+    (small, le-leb _ _ m)
+
+pub moments : (field moment : ℕ) → (u64_in field is_moment).valid moment ↔ IsMoment moment
+moments field moment = (λ v. leb-true _ _ v.1, moment_test field moment)

@@ -1,7 +1,8 @@
 -- What counts in a record. What doesn't is stale: it may stay until someone touches the record or tidies its chain.
-use Rattle.std.specs.Prelude.{ℕ, Bool, false, not, ◌==◌, ◌&&◌, ◌||◌, if◌then◌else◌, Option, Some, None, bit_and}
+use Rattle.std.specs.Prelude.{ℕ, Bool, true, false, not, ◌==◌, ◌&&◌, ◌||◌, if◌then◌else◌, Option, Some, None, List, [], ◌∷◌}
 use Rattle.std.specs.List.{list_any, list_all, filter}
 use Rattle.sid_core.specs.Ids.{same_id, same_spot}
+use Rattle.sid_core.specs.Values.{has}
 use Rattle.sid_core.specs.declared.ids.Sid.{Sid}
 use Rattle.sid_core.specs.declared.ids.Spot.{Spot}
 use Rattle.sid_core.specs.declared.ids.OpenId.{OpenId}
@@ -18,11 +19,13 @@ use Rattle.record_codec.specs.declared.register.RegisterRec.{RegisterRec}
 use Rattle.record_codec.specs.declared.ranges.RangeItem.{RangeItem}
 use Rattle.record_codec.specs.declared.mail.MailRec.{MailRec}
 
--- The records that say what counts, by their keys. A missing record is an empty one.
+-- The records that say what counts, by their keys: the register and mailbox records by pid, the lease records by name,
+-- the share mode records by the file's number. A missing record is an empty one.
 pub record Records : Type 0 where
   pub register : ℕ → Option RegisterRec
   pub mail : ℕ → Option MailRec
   pub lease : LeaseName → Option LeaseRec
+  pub share : ℕ → Option ShareRec
 
 -- ---- sessions and mailboxes
 
@@ -65,9 +68,6 @@ register_watch_counts records watch = has_token (records.mail watch.sid.pid) wat
 abbrev pub is_connected : Records → LeaseRef → Bool
 is_connected records ref = lives records ref.owner
 
-abbrev pub has_handle : LeaseState → Bool
-has_handle state = not (bit_and state.0 2 == 0)
-
 -- A break that nobody can acknowledge is over: without a connected open the lease takes what is needed.
 abbrev pub is_unanswered : Records → LeaseRec → Bool
 is_unanswered records lease = lease.breaking && not (list_any (is_connected records) lease.refs)
@@ -78,18 +78,37 @@ settled_state records lease = if is_unanswered records lease then lease.needed e
 -- Its owner lives, or it is durable and the settled lease has HANDLE.
 abbrev pub ref_counts : Records → LeaseRec → LeaseRef → Bool
 ref_counts records lease ref =
-    is_connected records ref || (not (ref.durable == 0) && has_handle (settled_state records lease))
+    is_connected records ref || (not (ref.durable == 0) && has (settled_state records lease).0 2)
 
--- The lease record as settling leaves it: the break over where nobody can acknowledge it, and the references that count.
-abbrev pub settled_lease : Records → LeaseRec → LeaseRec
-settled_lease records lease =
+-- The references that settling leaves: those that count.
+abbrev pub settled_refs : Records → LeaseRec → List LeaseRef
+settled_refs records lease = filter (ref_counts records lease) lease.refs
+
+-- The lease record with these references, and its break over where nobody can acknowledge it.
+abbrev pub with_refs : Records → LeaseRec → List LeaseRef → LeaseRec
+with_refs records lease refs =
     if is_unanswered records lease
-    then record { file = lease.file; held = lease.needed; breaking = false; asked = record { 0 = 0 }; needed = record { 0 = 0 }; refs = filter (ref_counts records lease) lease.refs }
-    else record lease { refs = filter (ref_counts records lease) lease.refs }
+    then record { file = lease.file; held = lease.needed; breaking = false; asked = record { 0 = 0 }; needed = record { 0 = 0 }; refs = refs }
+    else record lease { refs = refs }
 
--- Settling changes nothing: a lease record that it would change has a stale part.
+-- A lease without opens is gone.
+abbrev pub unless_empty : Records → LeaseRec → List LeaseRef → Option LeaseRec
+unless_empty records lease [] = None
+unless_empty records lease (ref ∷ refs) = Some (with_refs records lease (ref ∷ refs))
+
+-- The lease record as settling leaves it, or none where none of its references counts.
+abbrev pub settled_lease : Records → LeaseRec → Option LeaseRec
+settled_lease records lease = unless_empty records lease (settled_refs records lease)
+
+abbrev pub has_refs : List LeaseRef → Bool
+has_refs [] = false
+has_refs (ref ∷ refs) = true
+
+-- Settling changes nothing: the break isn't over, each reference counts, and there is one. A lease record that settling
+-- would change has a stale part.
 abbrev pub lease_is_settled : Records → LeaseRec → Bool
-lease_is_settled records lease = not (is_unanswered records lease) && list_all (ref_counts records lease) lease.refs
+lease_is_settled records lease =
+    not (is_unanswered records lease) && list_all (ref_counts records lease) lease.refs && has_refs lease.refs
 
 -- ---- opens
 
@@ -98,7 +117,7 @@ lease_is_settled records lease = not (is_unanswered records lease) && list_all (
 abbrev pub keeps : Records → ℕ → OpenId → Option LeaseRec → Bool
 keeps records file id None = false
 keeps records file id (Some lease) =
-    (lease.file == file) && list_any (λ ref. same_id ref.id id) lease.refs && has_handle (settled_state records lease)
+    (lease.file == file) && list_any (λ ref. same_id ref.id id) lease.refs && has (settled_state records lease).0 2
 
 abbrev pub is_kept : Records → ℕ → OpenId → Option LeaseName → Bool
 is_kept records file id None = false
@@ -109,24 +128,29 @@ abbrev pub entry_counts : Records → ℕ → ShareEntry → Bool
 entry_counts records file entry =
     lives records entry.owner || (not (entry.durable == 0) && is_kept records file entry.id entry.lease)
 
-abbrev pub entry_of_id_counts : Records → OpenId → Option ShareRec → Bool
-entry_of_id_counts records id None = false
-entry_of_id_counts records id (Some share) = list_any (λ entry. same_id entry.id id && entry_counts records share.file entry) share.entries
+abbrev pub entry_of_id_counts : Records → ℕ → OpenId → Option ShareRec → Bool
+entry_of_id_counts records file id None = false
+entry_of_id_counts records file id (Some share) = list_any (λ entry. same_id entry.id id && entry_counts records file entry) share.entries
 
--- A range, by the share mode record of its file: the entry of its open counts.
-abbrev pub range_counts : Records → Option ShareRec → RangeItem → Bool
-range_counts records share range = entry_of_id_counts records range.id share
+-- There is an entry of this id that counts in the share mode record under the file's key. That the entry is one of this
+-- file is said by the key: the record's own field isn't looked at.
+abbrev pub id_counts : Records → ℕ → OpenId → Bool
+id_counts records file id = entry_of_id_counts records file id (records.share file)
 
--- An open record, by the share mode record of its file: there is an entry of its id that counts.
-abbrev pub open_counts : Records → Option ShareRec → OpenRec → Bool
-open_counts records share open_ = entry_of_id_counts records open_.id share
+-- A range in the record of this file: the entry of its open counts.
+abbrev pub range_counts : Records → ℕ → RangeItem → Bool
+range_counts records file range = id_counts records file range.id
 
-abbrev pub entry_serves : Records → ℕ → ℕ → OpenId → Option ShareRec → Bool
-entry_serves records pid handle id None = false
-entry_serves records pid handle id (Some share) =
-    list_any (λ entry. same_id entry.id id && entry_counts records share.file entry && (entry.owner.pid == pid) && lives records entry.owner && (entry.handle == handle)) share.entries
+-- An open record: of its file there is an entry of its id that counts.
+abbrev pub open_counts : Records → OpenRec → Bool
+open_counts records open_ = id_counts records open_.file open_.id
 
--- An open record under this pid and handle serves as a handle: besides, its entry's owner is the current session of the
--- pid and its handle is this one.
-abbrev pub serves : Records → ℕ → ℕ → Option ShareRec → OpenRec → Bool
-serves records pid handle share open_ = entry_serves records pid handle open_.id share
+abbrev pub entry_serves : Records → ℕ → ℕ → ℕ → OpenId → Option ShareRec → Bool
+entry_serves records file pid handle id None = false
+entry_serves records file pid handle id (Some share) =
+    list_any (λ entry. same_id entry.id id && entry_counts records file entry && (entry.owner.pid == pid) && lives records entry.owner && (entry.handle == handle)) share.entries
+
+-- An open record under this pid and handle serves as a handle: the entry of its id that counts has the current session
+-- of the pid as its owner, and this handle.
+abbrev pub serves : Records → ℕ → ℕ → OpenRec → Bool
+serves records pid handle open_ = entry_serves records open_.file pid handle open_.id (records.share open_.file)

@@ -1,12 +1,12 @@
 -- The fields that records are made of.
-use Rattle.std.specs.Prelude.{ℕ, zero, suc, nat_lt, nat_le, Bool, true, false, not, ◌==◌, ◌&&◌, ◌||◌, if◌then◌else◌, bit_and, ◌⊎◌, List, ◌++◌, length}
+use Rattle.std.specs.Prelude.{ℕ, zero, suc, nat_lt, nat_le, Bool, true, false, not, ◌==◌, ◌&&◌, ◌||◌, if◌then◌else◌, ◌⊎◌, List, ◌++◌, length}
 use Rattle.std.specs.List.{list_all}
 use Rattle.sid_core.specs.declared.ids.Sid.{Sid}
 use Rattle.sid_core.specs.declared.ids.OpenId.{OpenId}
 use Rattle.sid_core.specs.declared.call.Mode.{Mode}
 use Rattle.sid_core.specs.declared.call.Mode.TheVariants.{Shared, Exclusive}
 use Rattle.sid_core.specs.declared.bits.LeaseState.{LeaseState}
-use Rattle.sid_core.specs.Values.{is_state}
+use Rattle.sid_core.specs.Values.{is_part_of, is_state}
 use Rattle.byteorder.specs.Endian.{little_number}
 use Rattle.record_codec.specs.declared.watch.WatchRec.{WatchRec}
 use Rattle.record_codec.specs.declared.fault.Unpack.TheVariants.{Magic, Version, BadField}
@@ -62,11 +62,8 @@ is_moment n = nat_le n 9999999999
 abbrev pub zero_unless : Bool → ℕ → Bool
 zero_unless condition n = condition || (n == 0)
 
-abbrev pub is_subset : ℕ → ℕ → Bool
-is_subset a b = bit_and a b == a
-
-abbrev pub is_proper_subset : ℕ → ℕ → Bool
-is_proper_subset a b = is_subset a b && not (a == b)
+abbrev pub is_proper_part_of : ℕ → ℕ → Bool
+is_proper_part_of part whole = is_part_of part whole && not (part == whole)
 
 -- ---- values of one byte
 
@@ -107,7 +104,7 @@ state field = via (λ n. record { 0 = n }) (λ s. s.0) (u8_in field is_state)
 
 -- what a break may lower a state to, and 0 alone where there is no break
 abbrev pub lowered : Bool → LeaseState → ℕ → Bool
-lowered breaking held n = if breaking then is_proper_subset n held.0 else n == 0
+lowered breaking held n = if breaking then is_proper_part_of n held.0 else n == 0
 
 -- ---- sessions and opens
 

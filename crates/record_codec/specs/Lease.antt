@@ -1,10 +1,11 @@
 -- The record of a lease.
 use Rattle.std.specs.Prelude.{ℕ, Bool, ◌==◌, if◌then◌else◌, codes}
 use Rattle.sid_core.specs.declared.bits.LeaseState.{LeaseState}
+use Rattle.sid_core.specs.Values.{is_part_of}
 use Rattle.record_codec.specs.declared.lease.LeaseRef.{LeaseRef}
 use Rattle.record_codec.specs.declared.lease.LeaseRec.{LeaseRec}
 use Rattle.record_codec.specs.Codec.{Codec, ◌⨾◌, via}
-use Rattle.record_codec.specs.Fields.{headed, u32, truth, state, state_in, lowered, is_subset, open_id, sid, list}
+use Rattle.record_codec.specs.Fields.{headed, u32, truth, state, state_in, lowered, open_id, sid, list}
 
 -- an open that has the lease
 unfoldable pub lease_ref : Codec LeaseRef
@@ -15,7 +16,7 @@ lease_ref = via (λ p. record { id = p.0; owner = p.1.0; durable = p.1.1 }) (λ 
 
 -- what is needed in the end: no more than is asked, and 0 where nothing is
 abbrev pub needed : Bool → LeaseState → ℕ → Bool
-needed breaking asked n = if breaking then is_subset n asked.0 else n == 0
+needed breaking asked n = if breaking then is_part_of n asked.0 else n == 0
 
 unfoldable pub lease : Codec LeaseRec
 lease = headed (codes "LEAS") (via

@@ -1,4 +1,4 @@
--- The record of an open under its handle.
+-- The record of an open, under a handle or under its id.
 use Rattle.std.specs.Prelude.{codes}
 use Rattle.record_codec.specs.declared.handle.OpenRec.{OpenRec}
 use Rattle.record_codec.specs.Codec.{Codec, ◌⨾◌, via}

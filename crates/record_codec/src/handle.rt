@@ -10,7 +10,7 @@ use crate::writing::{put_header, put_open_id, put_u32};
 use sid_core::{OpenId, OutOfMemory};
 use std::alloc::Global;
 
-/// An open, as its handle finds it.
+/// Which open stands under a pid and a handle, or under the id of an open, and of which file it is.
 #[derive(Clone, Copy, Debug, PartialEq, Eq)]
 pub struct OpenRec {
     pub id: OpenId,

@@ -1,11 +1,12 @@
 ghost use Rattle.std.specs.Prelude.{◌↔◌, ℕ, List};
 ghost use Rattle.sid_core.specs.declared.bits.Access.{Access};
+ghost use Rattle.sid_core.specs.declared.bits.Share.{Share};
 ghost use Rattle.sid_core.specs.declared.bits.LeaseState.{LeaseState};
-ghost use Rattle.sid_core.specs.Values.{IsText, IsAccess, IsState};
-ghost use Rattle.record_codec.specs.Fields.{text, state};
+ghost use Rattle.sid_core.specs.Values.{IsText, IsAccess, IsShare, IsState, IsMoment};
+ghost use Rattle.record_codec.specs.Fields.{text, state, is_moment, u64_in};
 ghost use Rattle.record_codec.specs.Laws.{IsGrammar};
 ghost use Rattle.record_codec.specs.Reads.{IsOkOrMemory};
-ghost use Rattle.record_codec.specs.Share.{access};
+ghost use Rattle.record_codec.specs.Share.{access, share_bits};
 
 use crate::fault::Unpack;
 use crate::glock::GLockRec;
@@ -30,11 +31,13 @@ pub fn records_are_grammars()
     ensures mail_rec { IsGrammar ⟦<MailRec as Packed>⟧.codec }
 {}
 
-/// The sets of texts, access rights and lease states in records are those that they have everywhere.
+/// The sets of texts, access rights, share bits, lease states and moments in records are those that they have everywhere.
 pub fn sets_of_values()
     ensures texts { (field : ℕ) (bytes : List ℕ) → (text field).valid bytes ↔ IsText bytes }
     ensures rights { (field : ℕ) (rights : Access) → (access field).valid rights ↔ IsAccess rights.0 }
+    ensures shares { (field : ℕ) (share : Share) → (share_bits field).valid share ↔ IsShare share.0 }
     ensures states { (field : ℕ) (held : LeaseState) → (state field).valid held ↔ IsState held.0 }
+    ensures moments { (field moment : ℕ) → (u64_in field is_moment).valid moment ↔ IsMoment moment }
 {}
 
 /// A record that is packed and unpacked again is the same record.

@@ -32,7 +32,7 @@ pub(crate) fn rows_at<T: Copy, R: Row<T>>(
 ) -> Result<(Vec<T>, &[u8]), Unpack>
     ensures { Gives (λ x. (x.0.items, x.1.now)) result (times_read R.codec.read count bytes.now) }
 {
-    // A false count reserves no more than the bytes can hold.
+    // A false count reserves no more items than the bytes can hold.
     let most = bytes.len() / R::SIZE.max(1);
     let mut rows = Vec::with_capacity(alloc, most.min(count as usize))?;
     let mut rest = bytes;

@@ -1,74 +1,10 @@
 use super::*;
-use sid_core::{Access, Items, Mode, OpenId, Share, Sid, Text};
-use std::alloc::{AllocError, Global};
+use sid_core::{
+    Access, Items, LeaseName, LeaseState, Letter, Mode, OpenId, OutOfMemory, Share, Sid, Spot, Text,
+};
+use std::alloc::Global;
 use std::process::Abort;
 use std::test::Fail;
-
-// A global lock held by session 1 of pid 101, shared, without watchers.
-const ONE_HOLD: [u8; 23] = [
-    0x47, 0x4C, 0x43, 0x4B, 1, 0, 1, 0, 0, 0, 0x65, 0, 0, 0, 1, 0, 0, 0, 0, 0, 0, 0, 0,
-];
-
-#[test]
-#[tactic(auto, unfolding(crate::specs::GLock::glock, crate::specs::GLock::hold))]
-fn global_lock_with_one_hold(rt: HostRuntime) -> Result<(), Fail> {
-    let mut holds = Items::new(rt.alloc());
-    holds.push(Hold {
-        sid: Sid {
-            pid: 101,
-            session: 1,
-        },
-        mode: Mode::Shared,
-    })?;
-    let watchers = Items::new(rt.alloc());
-    let packed = GLockRec { holds, watchers }.pack(rt.alloc())?;
-    assert_eq!(rt; packed.as_slice(), ONE_HOLD.as_slice());
-    refuses::<GLockRec, _>(
-        &rt,
-        rt.alloc(),
-        &ONE_HOLD,
-        &[
-            (0, 0x48, Unpack::Magic),
-            (4, 2, Unpack::Version),
-            (18, 2, Unpack::BadField(6)),
-        ],
-    )?;
-    Ok(())
-}
-
-#[test]
-#[tactic(auto, unfolding(crate::specs::Share::shares, crate::specs::Share::share_entry))]
-fn file_with_one_plain_open(rt: HostRuntime) -> Result<(), Fail> {
-    let mut path = Text::new(rt.alloc());
-    path.push(b"/srv/data")?;
-    let mut name = Text::new(rt.alloc());
-    name.push(b"a.txt")?;
-    let mut entries = Items::new(rt.alloc());
-    entries.push(ShareEntry {
-        id: OpenId { pid: 101, call: 1 },
-        owner: Sid {
-            pid: 101,
-            session: 1,
-        },
-        handle: 1,
-        access: Access(3),
-        share: Share(7),
-        lease: None,
-        durable: 0,
-        opened: 100,
-    })?;
-    let watchers = Items::new(rt.alloc());
-    let record = ShareRec {
-        file: 1,
-        path,
-        name,
-        entries,
-        watchers,
-    };
-    let packed = record.pack(rt.alloc())?;
-    assert_eq!(rt; packed.len(), 90);
-    Ok(())
-}
 
 // The bytes are no record, for that reason.
 fn is_refused<T: Packed + Drop, R: Abort>(rt: &R, alloc: Global, bytes: &[u8], fault: Unpack) {
@@ -78,8 +14,8 @@ fn is_refused<T: Packed + Drop, R: Abort>(rt: &R, alloc: Global, bytes: &[u8], f
     }
 }
 
-// The bytes are a record and its spelling; cut at any length they are short, one byte more is trailing,
-// and with the byte at that place changed to that value the fault is that.
+// The bytes are a record and its spelling, also of the record that is packed and unpacked once more; cut at any length
+// they are short, one byte more is trailing, and with the byte at that place changed to that value the fault is that.
 fn refuses<T: Packed + Drop, R: Abort>(
     rt: &R,
     alloc: Global,
@@ -87,8 +23,9 @@ fn refuses<T: Packed + Drop, R: Abort>(
     changes: &[(usize, u8, Unpack)],
 ) -> Result<(), Unpack> {
     let value = T::unpack(alloc, bytes)?;
-    let again = value.pack(alloc)?;
-    assert_eq!(rt; again.as_slice(), bytes);
+    let again = packed_and_unpacked(alloc, &value)?;
+    let packed = again.pack(alloc)?;
+    assert_eq!(rt; packed.as_slice(), bytes);
     for len in 0..bytes.len() {
         is_refused::<T, R>(rt, alloc, &bytes[..len], Unpack::Short);
     }
@@ -115,7 +52,7 @@ const OPEN_FAULTS: [(usize, u8, Unpack); 4] = [
 
 const GLOCK: [u8; 45] = [
     71, 76, 67, 75, 1, 0, 2, 0, 0, 0, 101, 0, 0, 0, 1, 0, 0, 0, 0, 102, 0, 0, 0, 3, 0, 0, 0, 1, 1,
-    0, 0, 0, 103, 0, 0, 0, 1, 0, 0, 0, 9, 0, 0, 0, 1,
+    0, 0, 0, 103, 0, 0, 0, 4, 0, 0, 0, 9, 0, 0, 0, 1,
 ];
 
 const GLOCK_FAULTS: [(usize, u8, Unpack); 5] = [
@@ -127,11 +64,11 @@ const GLOCK_FAULTS: [(usize, u8, Unpack); 5] = [
 ];
 
 const SHARE: [u8; 145] = [
-    83, 72, 65, 82, 1, 0, 1, 0, 0, 0, 2, 0, 47, 100, 1, 0, 97, 2, 0, 0, 0, 101, 0, 0, 0, 1, 0, 0,
-    0, 101, 0, 0, 0, 1, 0, 0, 0, 1, 0, 0, 0, 3, 0, 0, 0, 7, 0, 0, 0, 0, 0, 0, 0, 0, 0, 0, 0, 0, 0,
-    0, 0, 0, 0, 0, 0, 0, 0, 100, 0, 0, 0, 0, 0, 0, 0, 101, 0, 0, 0, 1, 0, 0, 0, 101, 0, 0, 0, 1, 0,
-    0, 0, 1, 0, 0, 0, 3, 0, 0, 0, 7, 1, 11, 0, 0, 0, 0, 0, 0, 0, 5, 0, 0, 0, 0, 0, 0, 0, 60, 0, 0,
-    0, 100, 0, 0, 0, 0, 0, 0, 0, 1, 0, 0, 0, 102, 0, 0, 0, 1, 0, 0, 0, 4, 0, 0, 0,
+    83, 72, 65, 82, 1, 0, 8, 0, 0, 0, 2, 0, 47, 100, 1, 0, 97, 2, 0, 0, 0, 101, 0, 0, 0, 2, 0, 0,
+    0, 102, 0, 0, 0, 3, 0, 0, 0, 4, 0, 0, 0, 3, 0, 0, 0, 7, 0, 0, 0, 0, 0, 0, 0, 0, 0, 0, 0, 0, 0,
+    0, 0, 0, 0, 0, 0, 0, 0, 100, 0, 0, 0, 0, 0, 0, 0, 103, 0, 0, 0, 5, 0, 0, 0, 104, 0, 0, 0, 6, 0,
+    0, 0, 9, 0, 0, 0, 1, 0, 0, 0, 5, 1, 11, 0, 0, 0, 0, 0, 0, 0, 12, 0, 0, 0, 0, 0, 0, 0, 60, 0, 0,
+    0, 200, 0, 0, 0, 0, 0, 0, 0, 1, 0, 0, 0, 105, 0, 0, 0, 10, 0, 0, 0, 13, 0, 0, 0,
 ];
 
 const SHARE_FAULTS: [(usize, u8, Unpack); 20] = [
@@ -158,8 +95,8 @@ const SHARE_FAULTS: [(usize, u8, Unpack); 20] = [
 ];
 
 const LEASE: [u8; 38] = [
-    76, 69, 65, 83, 1, 0, 1, 0, 0, 0, 7, 1, 3, 1, 1, 0, 0, 0, 101, 0, 0, 0, 1, 0, 0, 0, 101, 0, 0,
-    0, 1, 0, 0, 0, 60, 0, 0, 0,
+    76, 69, 65, 83, 1, 0, 4, 0, 0, 0, 7, 1, 3, 1, 1, 0, 0, 0, 101, 0, 0, 0, 5, 0, 0, 0, 102, 0, 0,
+    0, 2, 0, 0, 0, 60, 0, 0, 0,
 ];
 
 const LEASE_FAULTS: [(usize, u8, Unpack); 12] = [
@@ -178,8 +115,8 @@ const LEASE_FAULTS: [(usize, u8, Unpack); 12] = [
 ];
 
 const REGISTER: [u8; 51] = [
-    82, 69, 71, 73, 1, 0, 2, 0, 0, 0, 1, 2, 0, 0, 0, 100, 0, 0, 0, 0, 0, 0, 0, 1, 0, 0, 0, 90, 0,
-    0, 0, 0, 0, 0, 0, 1, 0, 0, 0, 102, 0, 0, 0, 1, 0, 0, 0, 4, 0, 0, 0,
+    82, 69, 71, 73, 1, 0, 5, 0, 0, 0, 1, 2, 0, 0, 0, 100, 0, 0, 0, 0, 0, 0, 0, 1, 0, 0, 0, 90, 0,
+    0, 0, 0, 0, 0, 0, 1, 0, 0, 0, 102, 0, 0, 0, 3, 0, 0, 0, 4, 0, 0, 0,
 ];
 
 const REGISTER_FAULTS: [(usize, u8, Unpack); 13] = [
@@ -199,8 +136,8 @@ const REGISTER_FAULTS: [(usize, u8, Unpack); 13] = [
 ];
 
 const RANGES: [u8; 55] = [
-    66, 82, 76, 75, 1, 0, 1, 0, 0, 0, 1, 0, 0, 0, 101, 0, 0, 0, 1, 0, 0, 0, 2, 0, 0, 0, 0, 0, 0, 0,
-    254, 255, 255, 255, 255, 255, 255, 255, 1, 1, 0, 0, 0, 102, 0, 0, 0, 1, 0, 0, 0, 4, 0, 0, 0,
+    66, 82, 76, 75, 1, 0, 3, 0, 0, 0, 1, 0, 0, 0, 101, 0, 0, 0, 6, 0, 0, 0, 2, 0, 0, 0, 0, 0, 0, 0,
+    254, 255, 255, 255, 255, 255, 255, 255, 1, 1, 0, 0, 0, 102, 0, 0, 0, 5, 0, 0, 0, 4, 0, 0, 0,
 ];
 
 const RANGES_FAULTS: [(usize, u8, Unpack); 5] = [
@@ -212,8 +149,8 @@ const RANGES_FAULTS: [(usize, u8, Unpack); 5] = [
 ];
 
 const MAIL: [u8; 97] = [
-    77, 65, 73, 76, 1, 0, 1, 0, 0, 0, 3, 0, 0, 0, 0, 2, 0, 0, 0, 0, 0, 0, 0, 5, 0, 0, 0, 1, 2, 0,
-    0, 0, 0, 0, 0, 0, 5, 0, 0, 0, 2, 0, 0, 0, 0, 0, 1, 0, 0, 5, 0, 0, 0, 2, 0, 0, 0, 0, 5, 0, 0, 0,
+    77, 65, 73, 76, 1, 0, 11, 0, 0, 0, 3, 0, 0, 0, 0, 2, 0, 0, 0, 0, 0, 0, 0, 5, 0, 0, 0, 1, 3, 0,
+    0, 0, 0, 0, 0, 0, 6, 0, 0, 0, 2, 0, 0, 0, 0, 0, 1, 0, 0, 8, 0, 0, 0, 2, 0, 0, 0, 0, 4, 0, 0, 0,
     0, 0, 0, 0, 0, 0, 0, 0, 0, 0, 0, 0, 0, 0, 0, 1, 0, 0, 0, 0, 3, 0, 0, 0, 9, 0, 0, 0, 0, 0, 0, 0,
     7, 5, 1,
 ];
@@ -253,5 +190,231 @@ fn each_record_and_its_faults(rt: HostRuntime) -> Result<(), Fail> {
     refuses::<RegisterRec, _>(&rt, rt.alloc(), &REGISTER, &REGISTER_FAULTS)?;
     refuses::<RangeRec, _>(&rt, rt.alloc(), &RANGES, &RANGES_FAULTS)?;
     refuses::<MailRec, _>(&rt, rt.alloc(), &MAIL, &MAIL_FAULTS)?;
+    Ok(())
+}
+
+#[tactic(auto, unfolding(crate::specs::Open::handle))]
+fn open_by_hand(alloc: Global) -> Result<Vec<u8>, OutOfMemory> {
+    let record = OpenRec {
+        id: OpenId { pid: 101, call: 7 },
+        file: 2,
+    };
+    record.pack(alloc)
+}
+
+#[tactic(auto, unfolding(crate::specs::GLock::glock, crate::specs::GLock::hold, crate::specs::GLock::upgrade_watch))]
+fn glock_by_hand(alloc: Global) -> Result<Vec<u8>, OutOfMemory> {
+    let mut holds = Items::new(alloc);
+    holds.push(Hold {
+        sid: Sid {
+            pid: 101,
+            session: 1,
+        },
+        mode: Mode::Shared,
+    })?;
+    holds.push(Hold {
+        sid: Sid {
+            pid: 102,
+            session: 3,
+        },
+        mode: Mode::Exclusive,
+    })?;
+    let mut watchers = Items::new(alloc);
+    watchers.push(WatchRec {
+        sid: Sid {
+            pid: 103,
+            session: 4,
+        },
+        call: 9,
+        upgrade: true,
+    })?;
+    GLockRec { holds, watchers }.pack(alloc)
+}
+
+#[tactic(auto, unfolding(crate::specs::Share::shares, crate::specs::Share::share_entry))]
+fn shares_by_hand(alloc: Global) -> Result<Vec<u8>, OutOfMemory> {
+    let mut path = Text::new(alloc);
+    path.push(b"/d")?;
+    let mut name = Text::new(alloc);
+    name.push(b"a")?;
+    let mut entries = Items::new(alloc);
+    entries.push(ShareEntry {
+        id: OpenId { pid: 101, call: 2 },
+        owner: Sid {
+            pid: 102,
+            session: 3,
+        },
+        handle: 4,
+        access: Access(3),
+        share: Share(7),
+        lease: None,
+        durable: 0,
+        opened: 100,
+    })?;
+    entries.push(ShareEntry {
+        id: OpenId { pid: 103, call: 5 },
+        owner: Sid {
+            pid: 104,
+            session: 6,
+        },
+        handle: 9,
+        access: Access(1),
+        share: Share(5),
+        lease: Some(LeaseName { guid: 11, key: 12 }),
+        durable: 60,
+        opened: 200,
+    })?;
+    let mut watchers = Items::new(alloc);
+    watchers.push(WatchRec {
+        sid: Sid {
+            pid: 105,
+            session: 10,
+        },
+        call: 13,
+        upgrade: false,
+    })?;
+    let record = ShareRec {
+        file: 8,
+        path,
+        name,
+        entries,
+        watchers,
+    };
+    record.pack(alloc)
+}
+
+#[tactic(auto, unfolding(crate::specs::Lease::lease, crate::specs::Lease::lease_ref))]
+fn lease_by_hand(alloc: Global) -> Result<Vec<u8>, OutOfMemory> {
+    let mut refs = Items::new(alloc);
+    refs.push(LeaseRef {
+        id: OpenId { pid: 101, call: 5 },
+        owner: Sid {
+            pid: 102,
+            session: 2,
+        },
+        durable: 60,
+    })?;
+    let record = LeaseRec {
+        file: 4,
+        held: LeaseState(7),
+        breaking: true,
+        asked: LeaseState(3),
+        needed: LeaseState(1),
+        refs,
+    };
+    record.pack(alloc)
+}
+
+#[tactic(auto, unfolding(crate::specs::Register::register))]
+fn register_by_hand(alloc: Global) -> Result<Vec<u8>, OutOfMemory> {
+    let mut ended = Items::new(alloc);
+    ended.push(90)?;
+    let mut watchers = Items::new(alloc);
+    watchers.push(WatchRec {
+        sid: Sid {
+            pid: 102,
+            session: 3,
+        },
+        call: 4,
+        upgrade: false,
+    })?;
+    let record = RegisterRec {
+        worker: 5,
+        alive: true,
+        session: 2,
+        connected: 100,
+        ended,
+        watchers,
+    };
+    record.pack(alloc)
+}
+
+#[tactic(auto, unfolding(crate::specs::Range::ranges, crate::specs::Range::range_item))]
+fn ranges_by_hand(alloc: Global) -> Result<Vec<u8>, OutOfMemory> {
+    let mut ranges = Items::new(alloc);
+    ranges.push(RangeItem {
+        id: OpenId { pid: 101, call: 6 },
+        start: 2,
+        length: 0xFFFF_FFFF_FFFF_FFFE,
+        mode: Mode::Exclusive,
+    })?;
+    let mut watchers = Items::new(alloc);
+    watchers.push(WatchRec {
+        sid: Sid {
+            pid: 102,
+            session: 5,
+        },
+        call: 4,
+        upgrade: false,
+    })?;
+    let record = RangeRec {
+        file: 3,
+        ranges,
+        watchers,
+    };
+    record.pack(alloc)
+}
+
+#[tactic(auto, unfolding(crate::specs::Mail::mail, crate::specs::Mail::token, crate::specs::Mail::letter))]
+fn mail_by_hand(alloc: Global) -> Result<Vec<u8>, OutOfMemory> {
+    let mut tokens = Items::new(alloc);
+    tokens.push(Token {
+        spot: Spot::OpenOf(2),
+        call: 5,
+    })?;
+    tokens.push(Token {
+        spot: Spot::RangesOf(3),
+        call: 6,
+    })?;
+    tokens.push(Token {
+        spot: Spot::LockOf(0x100_0000_0000),
+        call: 8,
+    })?;
+    let mut letters = Items::new(alloc);
+    letters.push(Letter::Wake { call: 4 })?;
+    letters.push(Letter::Break {
+        file: 3,
+        key: 9,
+        from: LeaseState(7),
+        to: LeaseState(5),
+        ack: true,
+    })?;
+    let record = MailRec {
+        session: 11,
+        tokens,
+        letters,
+    };
+    record.pack(alloc)
+}
+
+// Each record built by hand, with a value of its own in each field of an item, has the bytes written by hand.
+#[test]
+fn each_record_has_its_bytes(rt: HostRuntime) -> Result<(), Fail> {
+    let alloc = rt.alloc();
+    assert_eq!(rt; open_by_hand(alloc)?.as_slice(), OPEN.as_slice());
+    assert_eq!(rt; glock_by_hand(alloc)?.as_slice(), GLOCK.as_slice());
+    assert_eq!(rt; shares_by_hand(alloc)?.as_slice(), SHARE.as_slice());
+    assert_eq!(rt; lease_by_hand(alloc)?.as_slice(), LEASE.as_slice());
+    assert_eq!(rt; register_by_hand(alloc)?.as_slice(), REGISTER.as_slice());
+    assert_eq!(rt; ranges_by_hand(alloc)?.as_slice(), RANGES.as_slice());
+    assert_eq!(rt; mail_by_hand(alloc)?.as_slice(), MAIL.as_slice());
+    Ok(())
+}
+
+// The text of each fault.
+#[test]
+fn faults_have_texts(rt: HostRuntime) -> Result<(), Fail> {
+    let alloc = rt.alloc();
+    for (fault, text) in [
+        (Unpack::Magic, "no record of this kind"),
+        (Unpack::Version, "unknown version"),
+        (Unpack::Short, "too few bytes"),
+        (Unpack::Trailing, "bytes after the last field"),
+        (Unpack::BadField(12), "field 12 is outside its set"),
+        (Unpack::OutOfMemory, "out of memory"),
+    ] {
+        let said = format!(in alloc; "{fault}")?;
+        assert_eq!(rt; said.as_str(), text);
+    }
     Ok(())
 }

@@ -25,17 +25,17 @@ either_way false false a b = refl
 pub share_conflict-swap : (a s b t : ℕ) → share_conflict a s b t ≡ share_conflict b t a s
 share_conflict-swap a s b t = either_way (takes_part a) (takes_part b) (is_hindered a t) (is_hindered b s)
 
-pub same_reply : (t u : Table) (caller : Caller) (call : Call) → view t ≡ view u → (step t caller call).reply ≡ (step u caller call).reply
-same_reply t u caller call e = ap (λ v. (outcome v caller call).reply) e
+pub same_reply : (setup : Setup) (t u : Table) (caller : Caller) (call : Call) → view t ≡ view u → (step setup t caller call).reply ≡ (step setup u caller call).reply
+same_reply setup t u caller call e = ap (λ v. (outcome setup v caller call).reply) e
 
-pub same_posts : (t u : Table) (caller : Caller) (call : Call) → view t ≡ view u → (step t caller call).posts ≡ (step u caller call).posts
-same_posts t u caller call e = ap (λ v. (outcome v caller call).posts) e
+pub same_posts : (setup : Setup) (t u : Table) (caller : Caller) (call : Call) → view t ≡ view u → (step setup t caller call).posts ≡ (step setup u caller call).posts
+same_posts setup t u caller call e = ap (λ v. (outcome setup v caller call).posts) e
 
-pub same_view : (t u : Table) (caller : Caller) (call : Call) → view t ≡ view u → view (step t caller call).table ≡ view (step u caller call).table
-same_view t u caller call e =
-    view-apply_all (outcome (view t) caller call).changes t
-    ∙ ap (λ v. change_all (outcome v caller call).changes v) e
-    ∙ sym (view-apply_all (outcome (view u) caller call).changes u)
+pub same_view : (setup : Setup) (t u : Table) (caller : Caller) (call : Call) → view t ≡ view u → view (step setup t caller call).table ≡ view (step setup u caller call).table
+same_view setup t u caller call e =
+    view-apply_all (outcome setup (view t) caller call).changes t
+    ∙ ap (λ v. change_all (outcome setup v caller call).changes v) e
+    ∙ sym (view-apply_all (outcome setup (view u) caller call).changes u)
 
 pub after_all-append : (setup : Setup) (t : Table) (history : List Entry) (entry : Entry) → after_all setup t (history ++ entry ∷ []) ≡ after_entry setup (after_all setup t history) entry
 after_all-append setup t [] entry = refl

@@ -28,11 +28,11 @@ caller_is setup t worker number moment infos rows info row e f g h =
 
 pub accepts_call : (setup : Setup) (t : Table) (worker number : ℕ) (moment : Moment) (call : Call) (reply : Reply) (caller : Caller) (table : Table) (given : Reply) (posts : List Post)
     → caller_of setup (view t) worker number moment ≡ Some caller
-    → (let s : Stepped = record { table = table; reply = given; posts = posts } in s) ≡ step t caller call → given ≡ reply
+    → (let s : Stepped = record { table = table; reply = given; posts = posts } in s) ≡ step setup t caller call → given ≡ reply
     → Accepts setup worker (Called number moment call reply) t table posts
 accepts_call setup t worker number moment call reply caller table given posts e f g =
     let made : called setup t worker number moment call ≡ Some (record { table = table; reply = given; posts = posts }) =
-    ap (option_map (λ c. step t c call)) e ∙ ap (λ (s : Stepped). Some s) (sym f) in
+    ap (option_map (λ c. step setup t c call)) e ∙ ap (λ (s : Stepped). Some s) (sym f) in
     record {
       answers = record { caller = caller; is_caller = e; answered = ap (λ (s : Stepped). s.reply) (sym f) ∙ g };
       table = ap (λ o. option_map_or (λ s. s.table) o t) (sym made);

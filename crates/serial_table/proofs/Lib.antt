@@ -10,3 +10,4 @@ pub mod Alike
 pub mod Workers
 pub mod Differing
 pub mod Soundness
+pub mod Bounds

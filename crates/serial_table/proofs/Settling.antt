@@ -9,7 +9,7 @@ use Rattle.serial_table.specs.declared.rows.RangeRow.{RangeRow}
 use Rattle.serial_table.specs.declared.rows.LeaseRow.{LeaseRow}
 use Rattle.serial_table.specs.declared.rows.Breaking.{Breaking}
 use Rattle.serial_table.specs.declared.table.Table.{Table}
-use Rattle.serial_table.specs.Share.{has}
+use Rattle.sid_core.specs.Values.{has}
 use Rattle.serial_table.specs.View.{View, view, is_connected}
 use Rattle.serial_table.specs.Settle.{settle, settled, settled_lease, broken_to_needed, lacks_handle, keeps_open, keeps_range, keeps_lease}
 use Rattle.serial_table.proofs.Filters.{filter_kept, filter_all, any_none, any_kept, any_same, map_again}

@@ -206,7 +206,7 @@ module _ (setup : Setup) (history : List Entry) where
   decides : (t : Table) (caller : Caller) (call : Call) → is_served call ≡ true → IsPlain setup history t
       → ((file : ℕ) (access : Access) (share : Share) → IsPlainOpen setup history (new_open caller file access share))
       → ((file : ℕ) (access : Access) (share : Share) → AllByRecursion (λ other. have_same_id other (new_open caller file access share) ≡ false) t.opens)
-      → IsPlainDecision setup history t (decide (view t) caller call)
+      → IsPlainDecision setup history t (decide setup (view t) caller call)
   unfolding open_file close
   decides t caller (OpenFile file access share lease durable overwrite) served h plain others =
       opens_or_not t caller file access share (list_any (conflicts access share) ((view t).opens_of file)) h (plain file access share) (others file access share)
@@ -288,10 +288,10 @@ entry_is_plain setup history later by seq (Called number moment call reply) t s 
     (λ file access share. new_is_plain setup history by seq number moment call reply caller file access share first)
     (λ file access share. all_weaker (IsPlainOpen setup history) (λ other. have_same_id other (new_open caller file access share) ≡ false)
     (fresh_id setup history by number moment caller (numbers_of by later) file access share s first rising) t.opens h.opens) in
-    let made : called setup t by number moment call ≡ Some (step t caller call) = ap (option_map (λ c. step t c call)) legal.answered.is_caller in
+    let made : called setup t by number moment call ≡ Some (step setup t caller call) = ap (option_map (λ c. step setup t c call)) legal.answered.is_caller in
     subst (IsPlain setup (history ++ entry ∷ [])) (ap (λ o. option_map_or (λ (stepped : Stepped). stepped.table) o t) (sym made))
-    (concludes setup (history ++ entry ∷ []) t (decide (view t) caller call) decided)
-entry_is_plain setup history later by seq (Died worker moment) t s h legal rises = absurd legal
+    (concludes setup (history ++ entry ∷ []) t (decide setup (view t) caller call) decided)
+entry_is_plain setup history later by seq (Died worker moment) t s h legal rises = absurd (let none = legal.1 in cc)
 entry_is_plain setup history later by seq (Tidied chain) t s h legal rises = plain_more setup history ((record { by = by; seq = seq; what = Tidied chain }) ∷ []) t h
 
 -- ---- a whole history
@@ -369,3 +369,30 @@ plain_is_sound setup history t h = record {
 pub legal_is_sound : (setup : Setup) (history : List Entry) → IsSetup setup → IsLegal setup history → IsSound (after setup history)
 legal_is_sound setup history s legal =
     plain_is_sound setup history (after setup history) (all_are_plain setup [] history (start setup) s (start_is_plain setup) legal.entries legal.rising)
+
+-- ---- what such tables lack
+
+-- Nothing is leased, locked, held or posted, nobody waits, and there are first sessions only.
+pub record IsQuiet (setup : Setup) (t : Table) : Type 0 where
+  pub leases : t.leases ≡ []
+  pub ranges : t.ranges ≡ []
+  pub holds : t.holds ≡ []
+  pub waiters : t.waiters ≡ []
+  pub letters : t.letters ≡ []
+  pub workers : t.workers ≡ start_workers 1 setup.workers
+  pub owners : AllByRecursion (λ (row : OpenRow). row.owner.session ≡ 1) t.opens
+
+plain_is_quiet : (setup : Setup) (history : List Entry) (t : Table) → IsPlain setup history t → IsQuiet setup t
+plain_is_quiet setup history t h = record {
+  leases = h.leases;
+  ranges = h.ranges;
+  holds = h.holds;
+  waiters = h.waiters;
+  letters = h.letters;
+  workers = h.workers;
+  owners = all_weaker (IsPlainOpen setup history) (λ row. row.owner.session ≡ 1) (λ row p. p.session) t.opens h.opens;
+}
+
+pub legal_is_quiet : (setup : Setup) (history : List Entry) → IsSetup setup → IsLegal setup history → IsQuiet setup (after setup history)
+legal_is_quiet setup history s legal =
+    plain_is_quiet setup history (after setup history) (all_are_plain setup [] history (start setup) s (start_is_plain setup) legal.entries legal.rising)

@@ -19,11 +19,10 @@ use Rattle.serial_table.specs.View.{view}
 use Rattle.serial_table.specs.Step.{caller_of, caller_if_alive, declared_at, step}
 use Rattle.serial_table.specs.Decide.{outcome}
 use Rattle.serial_table.specs.declared.decision.Stepped.{Stepped}
-use Rattle.sid_core.specs.declared.entry.Entry.{Entry}
-use Rattle.sid_core.specs.declared.entry.Event.{Event}
-use Rattle.sid_core.specs.declared.entry.Event.TheVariants.{Called, Died, Tidied}
+use Rattle.sid_core.specs.declared.entry.Event.TheVariants.{Called}
+use Rattle.sid_core.specs.declared.reply.Reply.{Reply}
 use Rattle.sid_core.specs.declared.call.Call.{Call}
-use Rattle.serial_table.specs.History.{start_worker, start_workers, after_event, after_entry}
+use Rattle.serial_table.specs.History.{start, start_worker, start_workers, standing, standings, after_event}
 
 -- ---- what is found at the start
 
@@ -153,18 +152,53 @@ alive_part : (b c : Bool) → (b && c) ≡ true → b ≡ true
 alive_part true c e = refl
 alive_part false c e = e
 
+-- workers that stand alike are found alike
+alike_here : (b c : Bool) (r s : WorkerRow) (o p : Option WorkerRow) → b ≡ c → standing r ≡ standing s → option_map standing o ≡ option_map standing p
+    → option_map standing (cond b (Some r) o) ≡ option_map standing (cond c (Some s) p)
+alike_here true true r s o p e f later = ap (λ (x : ℕ × Bool). Some x) f
+alike_here true false r s o p e f later = absurd cc
+alike_here false true r s o p e f later = absurd cc
+alike_here false false r s o p e f later = later
+
+first_alike : (r s : WorkerRow) (rs ss : List WorkerRow) → map standing (r ∷ rs) ≡ map standing (s ∷ ss) → standing r ≡ standing s
+first_alike r s rs ss e = cc
+
+rest_alike : (r s : WorkerRow) (rs ss : List WorkerRow) → map standing (r ∷ rs) ≡ map standing (s ∷ ss) → map standing rs ≡ map standing ss
+rest_alike r s rs ss e = cc
+
+found_alike : (rs ss : List WorkerRow) (pid : ℕ) → map standing rs ≡ map standing ss
+    → option_map standing (find (λ r. r.pid == pid) rs) ≡ option_map standing (find (λ r. r.pid == pid) ss)
+found_alike [] [] pid e = refl
+found_alike [] (s ∷ ss) pid e = absurd cc
+found_alike (r ∷ rs) [] pid e = absurd cc
+found_alike (r ∷ rs) (s ∷ ss) pid e =
+    let first = first_alike r s rs ss e in
+    alike_here (r.pid == pid) (s.pid == pid) r s (find (λ r. r.pid == pid) rs) (find (λ r. r.pid == pid) ss) (ap (λ (x : ℕ × Bool). x.0 == pid) first) first (found_alike rs ss pid (rest_alike r s rs ss e))
+
+stands_there : (o : Option WorkerRow) (x : ℕ × Bool) → option_map standing o ≡ Some x → (row : WorkerRow) × (o ≡ Some row) × (standing row ≡ x)
+stands_there None x e = absurd cc
+stands_there (Some row) x e = (row, refl, cc)
+
 row_there : (o : Option WorkerRow) → option_map_or (λ (r : WorkerRow). r.alive && (r.session == 1)) o false ≡ true → (row : WorkerRow) × (o ≡ Some row) × (row.alive ≡ true)
 row_there None e = absurd cc
 row_there (Some row) e = (row, refl, alive_part row.alive (row.session == 1) e)
 
-pub caller_there : (setup : Setup) (t : Table) (worker number : ℕ) (moment : Moment) → t.workers ≡ start_workers 1 setup.workers → IsDeclared setup.workers worker
+-- where all stand as at the start, a declared worker's row is there, and it lives
+row_of_declared : (setup : Setup) (t : Table) (worker : ℕ) (info : WorkerInfo) → standings t ≡ standings (start setup) → declared_at setup.workers worker ≡ Some info
+    → (row : WorkerRow) × ((view t).worker_of info.pid ≡ Some row) × (row.alive ≡ true)
+row_of_declared setup t worker info w d =
+    let first = row_there (find (λ r. r.pid == info.pid) (start_workers 1 setup.workers)) (worker_lives setup.workers worker info d) in
+    let here = stands_there ((view t).worker_of info.pid) (standing first.0)
+    (found_alike t.workers (start_workers 1 setup.workers) info.pid w ∙ ap (option_map standing) first.1) in
+    (here.0, here.1, ap (λ (x : ℕ × Bool). x.1) here.2 ∙ first.2)
+
+pub caller_there : (setup : Setup) (t : Table) (worker number : ℕ) (moment : Moment) → standings t ≡ standings (start setup) → IsDeclared setup.workers worker
     → (caller : Caller) × (caller_of setup (view t) worker number moment ≡ Some caller)
 unfolding caller_of
 caller_there setup t worker number moment w h =
     let info = declared_is setup.workers worker h in
-    let found = row_there (find (λ r. r.pid == info.0.pid) (start_workers 1 setup.workers)) (worker_lives setup.workers worker info.0 info.1) in
-    let row = found.0 in
-    let is_row : (view t).worker_of info.0.pid ≡ Some found.0 = ap (find (λ r. r.pid == info.0.pid)) w ∙ found.1 in (
+    let found = row_of_declared setup t worker info.0 w info.1 in
+    let is_row : (view t).worker_of info.0.pid ≡ Some found.0 = found.1 in (
       record { sid = record { pid = found.0.pid; session = found.0.session }; guid = info.0.guid; number = number; moment = moment },
       ap (option_and_then (λ i. option_and_then (caller_if_alive i number moment) ((view t).worker_of i.pid))) info.1
           ∙ ap (option_and_then (caller_if_alive info.0 number moment)) is_row
@@ -187,14 +221,16 @@ pub workers-apply_all : (cs : List Change) (t : Table) → (apply_all cs t).work
 workers-apply_all [] t = refl
 workers-apply_all (c ∷ cs) t = workers-apply_all cs (apply c t) ∙ workers-apply c t
 
-after_called : (t : Table) (o : Option Caller) (call : Call) → (option_map_or (λ (s : Stepped). s.table) (option_map (λ caller. step t caller call) o) t).workers ≡ t.workers
-after_called t None call = refl
-after_called t (Some caller) call = workers-apply_all (outcome (view t) caller call).changes t
+-- no change makes another worker of one, or takes or gives its life
+standings-apply_all : (cs : List Change) (t : Table) → standings (apply_all cs t) ≡ standings t
+standings-apply_all cs t = ap (map standing) (workers-apply_all cs t)
 
-after_by : (setup : Setup) (t : Table) (by : ℕ) (event : Event) → (after_event setup t by event).workers ≡ t.workers
-after_by setup t by (Called number moment call reply) = after_called t (caller_of setup (view t) by number moment) call
-after_by setup t by (Died worker moment) = refl
-after_by setup t by (Tidied chain) = refl
+pub standings-step : (setup : Setup) (t : Table) (caller : Caller) (call : Call) → standings (step setup t caller call).table ≡ standings t
+standings-step setup t caller call = standings-apply_all (outcome setup (view t) caller call).changes t
 
-pub workers-after_entry : (setup : Setup) (t : Table) (entry : Entry) → (after_entry setup t entry).workers ≡ t.workers
-workers-after_entry setup t entry = after_by setup t entry.by entry.what
+standings-called : (setup : Setup) (t : Table) (o : Option Caller) (call : Call) → standings (option_map_or (λ (s : Stepped). s.table) (option_map (λ caller. step setup t caller call) o) t) ≡ standings t
+standings-called setup t None call = refl
+standings-called setup t (Some caller) call = standings-step setup t caller call
+
+pub standings-after_call : (setup : Setup) (t : Table) (worker number : ℕ) (moment : Moment) (call : Call) (reply : Reply) → standings (after_event setup t worker (Called number moment call reply)) ≡ standings t
+standings-after_call setup t worker number moment call reply = standings-called setup t (caller_of setup (view t) worker number moment) call

@@ -1,5 +1,5 @@
 -- Which entries a table accepts, and why it refuses the others.
-use Rattle.std.specs.Prelude.{◌≡◌, ◌≢◌, ℕ, Bool, true, false, IsTrue, List, Some, None}
+use Rattle.std.specs.Prelude.{◌≡◌, ◌≢◌, ℕ, Bool, true, false, IsTrue, IsSome, List, Some, None}
 use Rattle.sid_core.specs.declared.ids.Moment.{Moment}
 use Rattle.sid_core.specs.declared.entry.Post.{Post}
 use Rattle.sid_core.specs.declared.entry.Event.{Event}
@@ -14,9 +14,10 @@ use Rattle.serial_table.specs.declared.decision.Caller.{Caller}
 use Rattle.serial_table.specs.View.{view}
 use Rattle.serial_table.specs.Decide.{is_served}
 use Rattle.serial_table.specs.Step.{caller_of, step}
+use Rattle.serial_table.specs.Death.{died}
 use Rattle.serial_table.specs.History.{IsAnswered, after_event, posts_of_event}
 
--- the events that a table can be asked about
+-- the events that a table can be asked about: deaths aren't built yet
 abbrev pub is_served_event : Event → Bool
 is_served_event (Called number moment call reply) = is_served call
 is_served_event (Died worker moment) = false
@@ -25,10 +26,10 @@ is_served_event (Tidied chain) = true
 abbrev pub IsServedEvent : Event → Type 0
 IsServedEvent event = IsTrue (is_served_event event)
 
--- the caller is declared and alive, and the reply is the table's
+-- the caller is declared and alive, and the reply is the table's; of a death, `died` gives what it does
 abbrev pub AnswersEvent : Setup → Table → ℕ → Event → Type 0
 AnswersEvent setup t by (Called number moment call reply) = IsAnswered setup t by number moment call reply
-AnswersEvent setup t by (Died worker moment) = ⊥
+AnswersEvent setup t by (Died worker moment) = IsSome (died setup t worker moment)
 AnswersEvent setup t by (Tidied chain) = Unit {0}
 
 -- What this worker does is right at the table old, makes it new, and posts these letters.
@@ -41,7 +42,7 @@ pub record Accepts (setup : Setup) (by : ℕ) (event : Event) (old new : Table) 
 pub record Answers (setup : Setup) (t : Table) (worker number : ℕ) (moment : Moment) (call : Call) (reply given : Reply) : Type 0 where
   pub caller : Caller
   pub is_caller : caller_of setup (view t) worker number moment ≡ Some caller
-  pub answered : (step t caller call).reply ≡ given
+  pub answered : (step setup t caller call).reply ≡ given
   pub other : given ≢ reply
 
 -- Why: another reply, a caller that isn't declared or is dead, or want of memory, of which nothing is said.

@@ -3,6 +3,7 @@ use Rattle.std.specs.Prelude.{zero, Bool, true, false, None}
 use Rattle.sid_core.specs.declared.call.Call.{Call}
 use Rattle.sid_core.specs.declared.call.Call.TheVariants.{OpenFile, Close}
 use Rattle.sid_core.specs.declared.reply.Reply.TheVariants.{Unsuccessful}
+use Rattle.sid_core.specs.declared.setup.Setup.{Setup}
 use Rattle.serial_table.specs.View.{View}
 use Rattle.serial_table.specs.declared.decision.Caller.{Caller}
 use Rattle.serial_table.specs.declared.decision.Decision.{Decision}
@@ -16,10 +17,11 @@ is_served (OpenFile file access share None zero false) = true
 is_served (Close handle) = true
 is_served _ = false
 
-abbrev pub decide : View → Caller → Call → Decision
-decide v caller (OpenFile file access share lease durable overwrite) = open_file v caller file access share
-decide v caller (Close handle) = close v caller handle
-decide v caller _ = only_reply Unsuccessful
+-- A call reads the view, and what the script declares.
+abbrev pub decide : Setup → View → Caller → Call → Decision
+decide setup v caller (OpenFile file access share lease durable overwrite) = open_file v caller file access share
+decide setup v caller (Close handle) = close v caller handle
+decide setup v caller _ = only_reply Unsuccessful
 
-abbrev pub outcome : View → Caller → Call → Outcome
-outcome v caller call = conclude v (decide v caller call)
+abbrev pub outcome : Setup → View → Caller → Call → Outcome
+outcome setup v caller call = conclude v (decide setup v caller call)

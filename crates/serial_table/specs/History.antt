@@ -1,5 +1,5 @@
 -- Histories of the open table, and which of them are legal.
-use Rattle.std.specs.Prelude.{◌≡◌, ℕ, suc, ◌+◌, ◌<◌, ◌≤◌, ◌==◌, if◌then◌else◌, true, IsTrue, List, [], ◌∷◌, take, Option, Some}
+use Rattle.std.specs.Prelude.{◌≡◌, ℕ, suc, ◌+◌, ◌<◌, ◌≤◌, ◌==◌, Bool, if◌then◌else◌, true, IsTrue, IsSome, List, [], ◌∷◌, map, take, Option, Some}
 use Rattle.std.specs.List.{flat_map}
 use Rattle.std.specs.Option.{option_map, option_map_or}
 use Rattle.sid_core.specs.declared.ids.Moment.{Moment}
@@ -20,6 +20,7 @@ use Rattle.serial_table.specs.declared.decision.Caller.{Caller}
 use Rattle.serial_table.specs.Decide.{is_served}
 use Rattle.serial_table.specs.declared.decision.Stepped.{Stepped}
 use Rattle.serial_table.specs.Step.{caller_of, step}
+use Rattle.serial_table.specs.Death.{died}
 
 -- ---- where a history starts
 
@@ -44,20 +45,30 @@ start setup = record {
   ended = [];
 }
 
+-- ---- who lives
+
+-- a worker's pid, and whether it lives
+abbrev pub standing : WorkerRow → ℕ × Bool
+standing row = (row.pid, row.alive)
+
+-- those of all workers, in the order of their numbers
+abbrev pub standings : Table → List (ℕ × Bool)
+standings t = map standing t.workers
+
 -- ---- what an entry does
 
 -- the call, where its worker is declared and alive
 abbrev pub called : Setup → Table → ℕ → ℕ → Moment → Call → Option Stepped
-called setup t worker number moment call = option_map (λ caller. step t caller call) (caller_of setup (view t) worker number moment)
+called setup t worker number moment call = option_map (λ caller. step setup t caller call) (caller_of setup (view t) worker number moment)
 
 abbrev pub after_event : Setup → Table → ℕ → Event → Table
 after_event setup t by (Called number moment call reply) = option_map_or (λ stepped. stepped.table) (called setup t by number moment call) t
-after_event setup t by (Died worker moment) = t
+after_event setup t by (Died worker moment) = option_map_or (λ ended. ended.table) (died setup t worker moment) t
 after_event setup t by (Tidied chain) = t
 
 abbrev pub posts_of_event : Setup → Table → ℕ → Event → List Post
 posts_of_event setup t by (Called number moment call reply) = option_map_or (λ stepped. stepped.posts) (called setup t by number moment call) []
-posts_of_event setup t by (Died worker moment) = []
+posts_of_event setup t by (Died worker moment) = option_map_or (λ ended. ended.posts) (died setup t worker moment) []
 posts_of_event setup t by (Tidied chain) = []
 
 abbrev pub after_entry : Setup → Table → Entry → Table
@@ -82,7 +93,7 @@ table_at setup history place = after setup (take place history)
 pub record IsAnswered (setup : Setup) (t : Table) (worker number : ℕ) (moment : Moment) (call : Call) (reply : Reply) : Type 0 where
   pub caller : Caller
   pub is_caller : caller_of setup (view t) worker number moment ≡ Some caller
-  pub answered : (step t caller call).reply ≡ reply
+  pub answered : (step setup t caller call).reply ≡ reply
 
 pub record IsLegalCall (setup : Setup) (t : Table) (worker number : ℕ) (moment : Moment) (call : Call) (reply : Reply) : Type 0 where
   pub numbered : (1 ≤ number) × (number ≤ 20000)
@@ -91,10 +102,10 @@ pub record IsLegalCall (setup : Setup) (t : Table) (worker number : ℕ) (moment
   pub served : IsTrue (is_served call)
   pub answered : IsAnswered setup t worker number moment call reply
 
--- A death isn't served yet. To tidy a chain of the records is always legal, and changes nothing here.
+-- A death is legal where `died` gives what it does. To tidy a chain of the records is always legal, and changes nothing here.
 abbrev pub IsLegalEvent : Setup → Table → ℕ → Event → Type 0
 IsLegalEvent setup t by (Called number moment call reply) = IsLegalCall setup t by number moment call reply
-IsLegalEvent setup t by (Died worker moment) = ⊥
+IsLegalEvent setup t by (Died worker moment) = IsMoment moment.0 × IsSome (died setup t worker moment)
 IsLegalEvent setup t by (Tidied chain) = Unit {0}
 
 abbrev pub IsLegalEntry : Setup → Table → Entry → Type 0

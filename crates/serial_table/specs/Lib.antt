@@ -8,7 +8,9 @@ pub mod Open
 pub mod Close
 pub mod Decide
 pub mod Step
+pub mod Death
 pub mod History
 pub mod Sound
+pub mod Bounded
 pub mod Text
 pub mod Apply

@@ -8,7 +8,7 @@ use Rattle.serial_table.specs.declared.rows.LeaseRow.{LeaseRow}
 use Rattle.serial_table.specs.declared.rows.Breaking.{Breaking}
 use Rattle.serial_table.specs.declared.rows.RangeRow.{RangeRow}
 use Rattle.serial_table.specs.declared.table.Table.{Table}
-use Rattle.serial_table.specs.Share.{has}
+use Rattle.sid_core.specs.Values.{has}
 use Rattle.serial_table.specs.View.{View, view, is_connected, keeping_opens}
 
 -- the break is over, with the state that was needed

@@ -1,12 +1,11 @@
--- What holds of every table that a legal history makes.
+-- What holds of every table that a legal history makes, of a setup that a script can declare.
 use Rattle.std.specs.Prelude.{is_some, ◌≡◌, ℕ, Bool, true, false, ◌==◌, ◌&&◌, ◌||◌, not, Option, Some, None}
 use Rattle.std.specs.List.{IsDistinct, list_any, list_all}
 use Rattle.std.specs.Option.{option_map_or}
-use Rattle.std.specs.Int.RustNames.{bit_and}
 use Rattle.sid_core.specs.declared.call.Mode.{Mode}
 use Rattle.sid_core.specs.declared.call.Mode.TheVariants.{Shared, Exclusive}
 use Rattle.sid_core.specs.Ids.{same_sid, same_id, same_name, same_spot}
-use Rattle.sid_core.specs.Values.{is_state}
+use Rattle.sid_core.specs.Values.{has, is_part_of, is_state}
 use Rattle.serial_table.specs.declared.rows.OpenRow.{OpenRow}
 use Rattle.serial_table.specs.declared.rows.LeaseRow.{LeaseRow}
 use Rattle.serial_table.specs.declared.rows.Breaking.{Breaking}
@@ -14,7 +13,6 @@ use Rattle.serial_table.specs.declared.rows.RangeRow.{RangeRow}
 use Rattle.serial_table.specs.declared.rows.HoldRow.{HoldRow}
 use Rattle.serial_table.specs.declared.rows.WaiterRow.{WaiterRow}
 use Rattle.serial_table.specs.declared.table.Table.{Table}
-use Rattle.serial_table.specs.Share.{has}
 use Rattle.serial_table.specs.View.{view, lives, is_connected, is_of_lease}
 
 -- ---- opens
@@ -53,9 +51,6 @@ has_open t lease = list_any (is_of_lease lease.name lease.file) t.opens
 
 abbrev pub is_connected_lease : Table → LeaseRow → Bool
 is_connected_lease t lease = list_any (λ open_row. is_of_lease lease.name lease.file open_row && is_connected (view t) open_row) t.opens
-
-abbrev pub is_part_of : ℕ → ℕ → Bool
-is_part_of part whole = bit_and part whole == part
 
 -- What is needed is part of what was asked, and that is less than what is held.
 abbrev pub breaks_well : ℕ → Option Breaking → Bool

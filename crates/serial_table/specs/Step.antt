@@ -30,5 +30,5 @@ caller_of setup v worker number moment =
 abbrev pub carried_out : Table → Outcome → Stepped
 carried_out t done = record { table = apply_all done.changes t; reply = done.reply; posts = done.posts }
 
-abbrev pub step : Table → Caller → Call → Stepped
-step t caller call = carried_out t (outcome (view t) caller call)
+abbrev pub step : Setup → Table → Caller → Call → Stepped
+step setup t caller call = carried_out t (outcome setup (view t) caller call)

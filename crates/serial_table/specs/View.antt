@@ -1,4 +1,4 @@
--- What the table shows under each key. A call reads nothing else.
+-- What the table shows under each key. A call reads this and the setup, and nothing else.
 use Rattle.std.specs.Prelude.{ℕ, Bool, false, ◌==◌, ◌&&◌, List, ◌++◌, Option, filter, map, find}
 use Rattle.std.specs.Option.{option_map_or}
 use Rattle.sid_core.specs.declared.ids.Sid.{Sid}

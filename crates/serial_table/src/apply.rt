@@ -4,7 +4,7 @@ ghost use Rattle.serial_table.specs.View.{view};
 ghost use Rattle.serial_table.specs.Decide.{is_served};
 ghost use Rattle.serial_table.specs.Step.{caller_of, caller_if_alive, declared_at, step};
 ghost use Rattle.sid_core.specs.Setup.{IsDeclared};
-ghost use Rattle.serial_table.specs.History.{start_workers};
+ghost use Rattle.serial_table.specs.History.{start, standings};
 ghost use Rattle.serial_table.specs.Apply.{IsServedEvent, Accepts, Refuses};
 ghost use Rattle.serial_table.specs.declared.apply.Apply.TheVariants as refusals;
 
@@ -43,11 +43,11 @@ fn is_same_reply(a: Reply, b: Reply) -> bool
 }
 
 /// The table after a served call, with its reply and its posts.
-fn step(table: &Table, caller: &Caller, call: Call) -> Result<Stepped, OutOfMemory>
+fn step(setup: &Setup, table: &Table, caller: &Caller, call: Call) -> Result<Stepped, OutOfMemory>
     requires { IsTrue (is_served call) }
-    ensures { IfOk result (λ stepped. stepped ≡ step table.now caller.now call) }
+    ensures { IfOk result (λ stepped. stepped ≡ step setup.now table.now caller.now call) }
 {
-    let decision = decide(table, caller, call)?;
+    let decision = decide(setup, table, caller, call)?;
     conclude(table, &decision)
 }
 
@@ -88,26 +88,31 @@ impl Table {
     /// The caller that a worker's call with this number at this moment has: none where the worker isn't declared or is dead.
     pub fn caller(&self, setup: &Setup, worker: u32, number: u32, moment: Moment) -> Option<Caller>
         ensures caller { result ≡ caller_of setup.now (view self.now) worker number moment }
-        // Each declared worker lives while the workers are as they were at the start.
-        ensures lives { self.now.workers ≡ start_workers 1 setup.now.workers → IsDeclared setup.now.workers worker → IsSome result }
+        // Each declared worker calls while nobody has died.
+        ensures lives { standings self.now ≡ standings (start setup.now) → IsDeclared setup.now.workers worker → IsSome result }
     {
         self.find_caller(setup, worker, number, moment)
     }
 
     /// Carries out a call, and gives the reply and the letters that it posts. It costs as much as a copy of the table.
-    pub fn call(&mut self, caller: &Caller, call: Call) -> Result<(Reply, Items<Post>), OutOfMemory>
+    pub fn call(
+        &mut self,
+        setup: &Setup,
+        caller: &Caller,
+        call: Call,
+    ) -> Result<(Reply, Items<Post>), OutOfMemory>
         requires { IsTrue (is_served call) }
-        ensures changed { OnOk result (self.new ≡ (step self.old caller.now call).table) }
-        ensures reply { IfOk result (λ answer. answer.0 ≡ (step self.old caller.now call).reply) }
-        ensures posts { IfOk result (λ answer. answer.1 ≡ (step self.old caller.now call).posts) }
-        ensures workers { self.new.workers ≡ self.old.workers }
+        ensures changed { OnOk result (self.new ≡ (step setup.now self.old caller.now call).table) }
+        ensures reply { IfOk result (λ answer. answer.0 ≡ (step setup.now self.old caller.now call).reply) }
+        ensures posts { IfOk result (λ answer. answer.1 ≡ (step setup.now self.old caller.now call).posts) }
+        ensures standings { standings self.new ≡ standings self.old }
         ensures err { OnErr result (self.new ≡ self.old) }
     {
         let Stepped {
             table,
             reply,
             posts,
-        } = step(self, caller, call)?;
+        } = step(setup, self, caller, call)?;
         *self = table;
         Ok((reply, posts))
     }
@@ -133,7 +138,7 @@ impl Table {
             table,
             reply: given,
             posts,
-        } = step(self, &caller, call)?;
+        } = step(setup, self, &caller, call)?;
         if is_same_reply(given, reply) {
             *self = table;
             Ok(posts.into_vec())
@@ -142,8 +147,8 @@ impl Table {
         }
     }
 
-    /// Takes an entry of a history: checks that its worker lives and that its reply is the table's, makes its changes,
-    /// and gives the letters that it posts. After a refusal the table is as it was. It costs as much as a copy of the table.
+    /// Takes an entry of a history: of a call, checks that its worker lives and that its reply is the table's, makes its changes,
+    /// and gives the letters that it posts. A tidied chain is always taken, and changes nothing. After a refusal the table is as it was. It costs as much as a copy of the table.
     pub fn apply(&mut self, setup: &Setup, entry: &Entry) -> Result<Vec<Post>, Apply>
         requires served { IsServedEvent entry.now.what }
         ensures taken { IfOk result (λ posts. Accepts setup.now entry.now.by entry.now.what self.old self.new posts.items) }

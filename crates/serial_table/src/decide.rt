@@ -12,7 +12,7 @@ use crate::rows::OpenRow;
 use crate::settle::is_of_file;
 use crate::share::share_conflict;
 use crate::table::Table;
-use sid_core::{Access, Call, Items, OpenId, OutOfMemory, Reply, Share, Sid, Spot};
+use sid_core::{Access, Call, Items, OpenId, OutOfMemory, Reply, Setup, Share, Sid, Spot};
 use std::alloc::Global;
 
 fn only_reply(alloc: Global, reply: Reply) -> Decision
@@ -185,9 +185,14 @@ pub fn is_served(call: &Call) -> bool
 }
 
 /// What a served call decides.
-pub(crate) fn decide(table: &Table, caller: &Caller, call: Call) -> Result<Decision, OutOfMemory>
+pub(crate) fn decide(
+    setup: &Setup,
+    table: &Table,
+    caller: &Caller,
+    call: Call,
+) -> Result<Decision, OutOfMemory>
     requires { IsTrue (is_served call) }
-    ensures { IfOk result (λ decision. decision ≡ decide (view table.now) caller.now call) }
+    ensures { IfOk result (λ decision. decision ≡ decide setup.now (view table.now) caller.now call) }
 {
     match call {
         Call::OpenFile {

@@ -3,6 +3,8 @@
 ghost use Rattle.std.specs.Prelude.{◌≡◌, ℕ, Some, List, ◌∷◌, [], ◌++◌};
 ghost use Rattle.sid_core.specs.declared.call.Call.{Call};
 ghost use Rattle.sid_core.specs.declared.entry.Entry.{Entry};
+ghost use Rattle.sid_core.specs.declared.entry.Event.TheVariants.{Called};
+ghost use Rattle.sid_core.specs.declared.reply.Reply.{Reply};
 ghost use Rattle.sid_core.specs.declared.setup.Setup.{Setup};
 ghost use Rattle.sid_core.specs.Setup.{IsSetup, IsDeclared};
 ghost use Rattle.sid_core.specs.declared.ids.Moment.{Moment};
@@ -14,8 +16,9 @@ ghost use Rattle.serial_table.specs.View.{view};
 ghost use Rattle.serial_table.specs.Settle.{settle};
 ghost use Rattle.serial_table.specs.Change.{apply, change};
 ghost use Rattle.serial_table.specs.Step.{caller_of, step};
-ghost use Rattle.serial_table.specs.History.{start_workers, after_entry, after_all, after, IsLegalEntry, AreLegal, IsLegal};
+ghost use Rattle.serial_table.specs.History.{start, standings, after_event, after_entry, after_all, after, IsLegalEntry, AreLegal, IsLegal};
 ghost use Rattle.serial_table.specs.Sound.{IsSound};
+ghost use Rattle.serial_table.specs.Bounded.{IsBounded};
 
 /// Whether two opens conflict doesn't depend on which came first.
 pub fn sharing_is_symmetric()
@@ -38,25 +41,31 @@ pub fn histories_go_on()
     ensures legal { (setup : Setup) (t : Table) (history : List Entry) (entry : Entry) → AreLegal setup t history → IsLegalEntry setup (after_all setup t history) entry → AreLegal setup t (history ++ entry ∷ []) }
 {}
 
-/// While the workers are as they were at the start, each declared worker can call.
+/// While nobody has died, each declared worker can call.
 pub fn declared_workers_call()
-    ensures { (setup : Setup) (t : Table) (worker number : ℕ) (moment : Moment) → t.workers ≡ start_workers 1 setup.workers → IsDeclared setup.workers worker
+    ensures { (setup : Setup) (t : Table) (worker number : ℕ) (moment : Moment) → standings t ≡ standings (start setup) → IsDeclared setup.workers worker
         → (caller : Caller) × (caller_of setup (view t) worker number moment ≡ Some caller) }
 {}
 
-/// No served entry changes a worker's row.
+/// No call changes who the workers are, or whether they live.
 pub fn workers_stay()
-    ensures { (setup : Setup) (t : Table) (entry : Entry) → (after_entry setup t entry).workers ≡ t.workers }
+    ensures { (setup : Setup) (t : Table) (worker number : ℕ) (moment : Moment) (call : Call) (reply : Reply)
+        → standings (after_event setup t worker (Called number moment call reply)) ≡ standings t }
 {}
 
-/// Each table that a legal history of the served calls makes is sound.
+/// Each table that a legal history of the served calls makes is sound, where a script can declare the setup.
 pub fn legal_histories_are_sound()
     ensures { (setup : Setup) (history : List Entry) → IsSetup setup → IsLegal setup history → IsSound (after setup history) }
 {}
 
+/// Each table that a legal history of the served calls makes is bounded, where a script can declare the setup.
+pub fn legal_histories_are_bounded()
+    ensures { (setup : Setup) (history : List Entry) → IsSetup setup → IsLegal setup history → IsBounded (after setup history) }
+{}
+
 /// Tables that show the same under each key answer alike, post alike, and show the same afterwards.
 pub fn alike_tables_step_alike()
-    ensures reply { (t u : Table) (caller : Caller) (call : Call) → view t ≡ view u → (step t caller call).reply ≡ (step u caller call).reply }
-    ensures posts { (t u : Table) (caller : Caller) (call : Call) → view t ≡ view u → (step t caller call).posts ≡ (step u caller call).posts }
-    ensures table { (t u : Table) (caller : Caller) (call : Call) → view t ≡ view u → view (step t caller call).table ≡ view (step u caller call).table }
+    ensures reply { (setup : Setup) (t u : Table) (caller : Caller) (call : Call) → view t ≡ view u → (step setup t caller call).reply ≡ (step setup u caller call).reply }
+    ensures posts { (setup : Setup) (t u : Table) (caller : Caller) (call : Call) → view t ≡ view u → (step setup t caller call).posts ≡ (step setup u caller call).posts }
+    ensures table { (setup : Setup) (t u : Table) (caller : Caller) (call : Call) → view t ≡ view u → view (step setup t caller call).table ≡ view (step setup u caller call).table }
 {}

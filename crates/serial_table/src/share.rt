@@ -1,5 +1,6 @@
 ghost use Rattle.std.specs.Prelude.{◌≡◌};
-ghost use Rattle.serial_table.specs.Share.{has, takes_part, is_hindered, share_conflict};
+ghost use Rattle.serial_table.specs.Share.{takes_part, is_hindered, share_conflict};
+ghost use Rattle.sid_core.specs.Values.{has};
 
 use bitflags::Flags;
 use sid_core::{Access, Share};

@@ -1,7 +1,7 @@
 ghost use Rattle.std.specs.Prelude.{◌≡◌, ◌==◌, not, false, filter, map, IfOk, OnOk};
 ghost use Rattle.std.specs.List.{list_any, flat_map};
 ghost use Rattle.sid_core.specs.Ids.{same_id};
-ghost use Rattle.serial_table.specs.View.{view, is_of_file, waits_on};
+ghost use Rattle.serial_table.specs.View.{view, is_of_file, has_id, waits_on};
 ghost use Rattle.serial_table.specs.Settle.{keeps_open, keeps_range};
 ghost use Rattle.serial_table.specs.Change.{apply, apply_all};
 ghost use Rattle.serial_table.specs.Wake.{frees, some_frees, judged, freed_too, wake, wakes};
@@ -9,7 +9,7 @@ ghost use Rattle.serial_table.specs.Wake.{frees, some_frees, judged, freed_too, 
 use crate::change::Change;
 use crate::decision::Candidate;
 use crate::perform::is_same_spot;
-use crate::rows::{RangeRow, WaiterRow};
+use crate::rows::{OpenRow, RangeRow, WaiterRow};
 use crate::settle::{is_of_file, keeps_open, keeps_range};
 use crate::table::Table;
 use sid_core::{Letter, OpenId, OutOfMemory, Post, Spot};
@@ -35,6 +35,22 @@ fn has_range(table: &Table, file: u32, id: OpenId) -> bool
         .iter()
         .filter(|range| is_range_of_file(file, range))
         .any(|range| is_range_of_open(id, range))
+}
+
+fn has_id(id: OpenId, row: &OpenRow) -> bool
+    ensures { result ≡ has_id id row.now }
+{
+    row.id == id
+}
+
+fn has_open(table: &Table, file: u32, id: OpenId) -> bool
+    ensures { result ≡ list_any (has_id id) ((view table.now).opens_of file) }
+{
+    let opens = table.opens.as_slice();
+    opens
+        .iter()
+        .filter(|open| is_of_file(file, open))
+        .any(|open| has_id(id, open))
 }
 
 fn loses_open(table: &Table, file: u32) -> bool
@@ -74,12 +90,20 @@ fn frees(table: &Table, change: Change, spot: Spot) -> bool
     ensures { result ≡ frees change (view table.now) spot }
 {
     match (change, spot) {
-        (Change::DropOpen { file, .. }, Spot::OpenOf(of)) => file == of,
+        (Change::DropOpen { file, id }, Spot::OpenOf(of)) => file == of && has_open(table, of, id),
         (Change::DropOpen { file, id }, Spot::RangesOf(of)) => file == of
             && has_range(table, of, id),
         (Change::Settle, Spot::OpenOf(of)) => settling_frees_opens(table, of),
         (Change::Settle, Spot::RangesOf(of)) => settling_frees_ranges(table, of),
-        _ => false,
+        (Change::DropOpen { .. } | Change::Settle, Spot::LockOf(_)) => false,
+        (
+            Change::AddOpen(_)
+            | Change::AddWaiter(_)
+            | Change::DropWaiter { .. }
+            | Change::DropWaiters { .. }
+            | Change::Send(_),
+            _,
+        ) => false,
     }
 }
 

@@ -1,5 +1,5 @@
 -- The sets in which values lie, in scripts, tables and records alike.
-use Rattle.std.specs.Prelude.{◌≡◌, ℕ, Bool, ◌==◌, ◌<◌, ◌≤◌, ◌^◌, IsTrue, List, [], ◌∷◌, length}
+use Rattle.std.specs.Prelude.{◌≡◌, ℕ, Bool, not, ◌==◌, ◌<◌, ◌≤◌, ◌^◌, IsTrue, List, [], ◌∷◌, length}
 use Rattle.std.specs.List.{AllByRecursion, list_any}
 use Rattle.std.specs.Int.RustNames.{bit_and}
 use Rattle.sid_core.specs.declared.call.Span.{Span}
@@ -10,6 +10,14 @@ IsU32 n = n < 2 ^ 32
 
 abbrev pub IsU64 : ℕ → Type 0
 IsU64 n = n < 2 ^ 64
+
+-- one of the wanted bits, at least
+abbrev pub has : ℕ → ℕ → Bool
+has bits wanted = not (bit_and bits wanted == 0)
+
+-- no bit outside the whole
+abbrev pub is_part_of : ℕ → ℕ → Bool
+is_part_of part whole = bit_and part whole == part
 
 -- Access rights: one at least, and none outside the fourteen that have names.
 pub record IsAccess (bits : ℕ) : Type 0 where

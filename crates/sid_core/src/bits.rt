@@ -85,7 +85,8 @@ impl Flags for Share {
     }
 }
 
-/// What a lease lets its client cache: none, R, RH, RW or RWH ([MS-SMB2] 2.2.13.2.8).
+/// What a lease lets its client cache, by the bits of [MS-SMB2] 2.2.13.2.8. That only none, R, RH, RW and RWH are taken is this
+/// project's own.
 #[derive(Clone, Copy, Debug, PartialEq, Eq)]
 pub struct LeaseState(pub u8);
 

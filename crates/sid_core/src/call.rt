@@ -6,7 +6,7 @@ pub enum Mode {
     Exclusive,
 }
 
-/// Bytes `start` to `start + length - 1` of a file.
+/// The `length` bytes of a file from `start` on.
 #[derive(Clone, Copy, Debug, PartialEq, Eq)]
 pub struct Span {
     pub start: u64,

@@ -4,7 +4,7 @@ use crate::memory::OutOfMemory;
 use std::alloc::Global;
 use std::marker::Model;
 
-/// Bytes, as contracts see it.
+/// Bytes. Contracts see the list of them.
 #[derive(Debug, Drop)]
 pub struct Text {
     bytes: Vec<u8>,

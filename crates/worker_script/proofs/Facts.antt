@@ -2,11 +2,12 @@
 use Rattle.std.proofs.Common.{◌≡◌, ℕ, ◌<◌, ◌≤◌, Bool, true, false, not, cond, eqb, leb, ltb, bit_and, ◌&&◌, List, [], ◌∷◌, length, Option, Some, None, is_none, unwrap_or, refl, arith}
 use Rattle.std.specs.List.{AllByRecursion, list_all, filter, onto_first}
 use Rattle.std.proofs.lemmas.Bool.Decides.{nat_tests}
+use Rattle.std.proofs.lemmas.Slice.Eq.{bytes_eq-Decides}
 use Rattle.std.specs.Prelude.{codes}
 use Rattle.std.specs.Str.{bytes_eq}
 use Rattle.sid_core.specs.Values.{IsPrintable, IsText, IsAccess, IsShare}
 use Rattle.worker_script.specs.Text.{parts, tokens, token, is_empty, is_plain}
-use Rattle.worker_script.specs.Values.{value, is_number, is_numeral, is_short, known_access, access, hex_after, share}
+use Rattle.worker_script.specs.Values.{value, is_digit, is_number, is_numeral, is_short, known_access, access, hex_after, share}
 use Rattle.worker_script.proofs.Lists.{and_true}
 
 -- A number lies in its range.
@@ -97,3 +98,17 @@ unfolding share
 share-known t some =
     small-share (bytes_eq t (codes "-")) (bytes_eq t (codes "r")) (bytes_eq t (codes "w")) (bytes_eq t (codes "rw"))
     (bytes_eq t (codes "d")) (bytes_eq t (codes "rd")) (bytes_eq t (codes "wd")) (bytes_eq t (codes "rwd")) some
+
+-- ---- the words of declarations and phases
+
+no-digits : (word t : List ℕ) → list_all is_digit word ≡ false → bytes_eq t word ≡ true → list_all is_digit t ≡ false
+no-digits word t none e = let same : t ≡ word = (bytes_eq-Decides t word).0 e in rw same none
+
+pub worker_no_digits : (t : List ℕ) → bytes_eq t (codes "worker") ≡ true → list_all is_digit t ≡ false
+worker_no_digits t e = no-digits (codes "worker") t refl e
+
+pub file_no_digits : (t : List ℕ) → bytes_eq t (codes "file") ≡ true → list_all is_digit t ≡ false
+file_no_digits t e = no-digits (codes "file") t refl e
+
+pub phase_no_digits : (t : List ℕ) → bytes_eq t (codes "phase") ≡ true → list_all is_digit t ≡ false
+phase_no_digits t e = no-digits (codes "phase") t refl e

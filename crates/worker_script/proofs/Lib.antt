@@ -3,8 +3,10 @@ pub mod Values
 pub mod Counts
 pub mod Lists
 pub mod Facts
-pub mod Seats
+pub mod Tallies
 pub mod Planning
 pub mod Sound
 pub mod SoundCalls
 pub mod SoundText
+mod FitsExamples
+mod Reasons

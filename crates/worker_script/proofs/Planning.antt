@@ -9,7 +9,7 @@ use Rattle.worker_script.specs.Lines.{planned_in, with_planned}
 use Rattle.worker_script.specs.Calls.{has_stopped, is_status_call, statuses_in}
 use Rattle.worker_script.specs.Reader.{draft_of, IsReader}
 use Rattle.worker_script.proofs.Counts.{all_calls-push}
-use Rattle.worker_script.proofs.Seats.{AreSeats, seats-plan, statuses-push}
+use Rattle.worker_script.proofs.Tallies.{AreTallies, tallies-plan, statuses-push}
 
 one-at-most : (b : Bool) → cond b 1 0 ≤ 1
 one-at-most true = omega arith
@@ -24,21 +24,21 @@ pub plan-reader : (before after : Reader) (planned : Planned) → IsReader befor
     → after.workers ≡ before.workers → after.files ≡ before.files → after.places ≡ before.places → after.phases ≡ before.phases
     → after.current ≡ with_planned before.current planned → after.calls ≡ before.calls + 1
     → after.statuses ≡ before.statuses + cond (is_status_call planned.call) 1 0
-    → after.seats.items ≡ set before.seats.items (planned.worker - 1) (record {
+    → after.tallies.items ≡ set before.tallies.items (planned.worker - 1) (record {
       made = length (numbers_of planned.worker (planned_in (draft_of before))) + 1;
       stopped = has_stopped planned.worker (planned_in (draft_of before)) || is_some planned.stop;
     })
     → IsReader after
-plan-reader before after planned is some room low high workers files places phases current calls statuses seats =
+plan-reader before after planned is some room low high workers files places phases current calls statuses tallies =
     let all : planned_in (draft_of after) ≡ planned_in (draft_of before) ++ planned ∷ [] =
     rw (phases, current) (all_calls-push before.phases before.current planned some) in
     let counted : length (planned_in (draft_of after)) ≡ length (planned_in (draft_of before)) + 1 =
     rw all (length-append (planned_in (draft_of before)) (planned ∷ [])) in
     let stated : statuses_in (planned_in (draft_of after)) ≡ statuses_in (planned_in (draft_of before)) + cond (is_status_call planned.call) 1 0 =
     rw all (statuses-push (planned_in (draft_of before)) planned) in
-    let kept : length after.seats.items ≡ length before.seats.items = rw seats (length-set before.seats.items (planned.worker - 1) _) in
+    let kept : length after.tallies.items ≡ length before.tallies.items = rw tallies (length-set before.tallies.items (planned.worker - 1) _) in
     let small = one-at-most (is_status_call planned.call) in
-    let were : AreSeats before.seats.items (planned_in (draft_of before)) = record { each = is.each_seat } in
+    let were : AreTallies before.tallies.items (planned_in (draft_of before)) = record { each = is.each_tally } in
     record {
       few_workers = rw workers is.few_workers;
       few_files = rw files is.few_files;
@@ -49,7 +49,7 @@ plan-reader before after planned is some room low high workers files places phas
       few_calls = omega (arith, calls, room);
       statuses = omega (arith, statuses, stated, is.statuses);
       few_statuses = omega (arith, statuses, calls, small, is.few_statuses);
-      seats = kept ∙ (rw workers is.seats);
-      each_seat = λ i here. rw (seats, all)
-          (seats-plan before.seats.items (planned_in (draft_of before)) planned low (omega (arith, high, is.seats)) were i (omega (arith, here, kept)));
+      tallies = kept ∙ (rw workers is.tallies);
+      each_tally = λ i here. rw (tallies, all)
+          (tallies-plan before.tallies.items (planned_in (draft_of before)) planned low (omega (arith, high, is.tallies)) were i (omega (arith, here, kept)));
     }

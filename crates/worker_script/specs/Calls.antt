@@ -1,7 +1,7 @@
 -- Call lines: which calls they spell, and what makes them bad.
-use Rattle.std.specs.Prelude.{ℕ, ◌-◌, Bool, true, false, not, ◌==◌, ◌&&◌, ◌||◌, nat_le, if◌then◌else◌, List, [], ◌∷◌, length, Option, Some, None, is_some, is_none, unwrap_or, Result}
+use Rattle.std.specs.Prelude.{ℕ, ◌-◌, Bool, true, false, not, ◌==◌, ◌&&◌, ◌||◌, nat_le, if◌then◌else◌, List, [], ◌∷◌, length, Option, Some, None, is_some, is_none, unwrap_or, Result, Ok, Err}
 use Rattle.std.specs.List.{list_any, count_by}
-use Rattle.std.specs.Option.{option_map}
+use Rattle.std.specs.Option.{option_map, option_map_or}
 use Rattle.sid_core.specs.declared.call.Call.{Call}
 use Rattle.sid_core.specs.declared.call.Call.TheVariants.{OpenFile, Close, Ack, Lock, Unlock, Read, Write, GLock, GUnlock, Recv, Disconnect, Reconnect, Scavenge, Tidy, Status}
 use Rattle.sid_core.specs.declared.call.Span.{Span}
@@ -11,10 +11,11 @@ use Rattle.worker_script.specs.declared.script.Planned.{Planned}
 use Rattle.worker_script.specs.declared.word.Word.{Word}
 use Rattle.worker_script.specs.declared.word.Word.TheVariants as word
 use Rattle.worker_script.specs.Text.{token}
-use Rattle.worker_script.specs.Values.{value, is_number, is_u32, is_u64, access, share}
+use Rattle.worker_script.specs.Values.{value, is_u32, is_u64, access, share}
 use Rattle.worker_script.specs.Words.{word_of, state_of, lock_mode, glock_mode, wait_of, stop_of}
 use Rattle.worker_script.specs.Options.{asked_in, flags_in, tables_of}
-use Rattle.worker_script.specs.Lines.{Draft, planned_in, first_fault, checked, is_declared, with_planned, next_number}
+use Rattle.worker_script.specs.Script.{is_built}
+use Rattle.worker_script.specs.Lines.{Draft, planned_in, first_fault, judged, is_declared, with_planned, next_number}
 
 -- The last token is the stop where it begins with `!` and isn't the first.
 abbrev pub begins_stop : List ℕ → Bool
@@ -82,68 +83,25 @@ wrong_number None ts = false
 wrong_number (Some w) ts = not (are_numbers w ts)
 
 abbrev pub is_status : Option Word → Bool
-is_status None = false
-is_status (Some word.Open) = false
-is_status (Some word.Close) = false
-is_status (Some word.Ack) = false
-is_status (Some word.Lock) = false
-is_status (Some word.Unlock) = false
-is_status (Some word.Read) = false
-is_status (Some word.Write) = false
-is_status (Some word.GLock) = false
-is_status (Some word.GUnlock) = false
-is_status (Some word.Recv) = false
-is_status (Some word.Disconnect) = false
-is_status (Some word.Reconnect) = false
-is_status (Some word.Scavenge) = false
-is_status (Some word.Tidy) = false
 is_status (Some word.Status) = true
+is_status _ = false
 
 abbrev pub is_status_call : Call → Bool
-is_status_call (OpenFile file access share lease durable overwrite) = false
-is_status_call (Close handle) = false
-is_status_call (Ack key state) = false
-is_status_call (Lock handle span mode wait) = false
-is_status_call (Unlock handle span) = false
-is_status_call (Read handle span) = false
-is_status_call (Write handle span) = false
-is_status_call (GLock key mode wait) = false
-is_status_call (GUnlock key) = false
-is_status_call Recv = false
-is_status_call Disconnect = false
-is_status_call (Reconnect worker call key) = false
-is_status_call Scavenge = false
-is_status_call Tidy = false
 is_status_call (Status tables) = true
+is_status_call _ = false
 
 abbrev pub statuses_in : List Planned → ℕ
 statuses_in calls = count_by (λ planned. is_status_call planned.call) calls
 
 -- `reconnect` names a worker that isn't declared.
 abbrev pub names_no_worker : Option Word → Draft → List (List ℕ) → Bool
-names_no_worker None draft ts = false
-names_no_worker (Some word.Open) draft ts = false
-names_no_worker (Some word.Close) draft ts = false
-names_no_worker (Some word.Ack) draft ts = false
-names_no_worker (Some word.Lock) draft ts = false
-names_no_worker (Some word.Unlock) draft ts = false
-names_no_worker (Some word.Read) draft ts = false
-names_no_worker (Some word.Write) draft ts = false
-names_no_worker (Some word.GLock) draft ts = false
-names_no_worker (Some word.GUnlock) draft ts = false
-names_no_worker (Some word.Recv) draft ts = false
-names_no_worker (Some word.Disconnect) draft ts = false
 names_no_worker (Some word.Reconnect) draft ts = not (is_declared draft.workers (value (token 2 ts)))
-names_no_worker (Some word.Scavenge) draft ts = false
-names_no_worker (Some word.Tidy) draft ts = false
-names_no_worker (Some word.Status) draft ts = false
+names_no_worker _ draft ts = false
 
 -- whether a worker dies in one of these calls
 abbrev pub has_stopped : ℕ → List Planned → Bool
 has_stopped worker calls = list_any (λ planned. (planned.worker == worker) && is_some planned.stop) calls
 
--- The call that a line with this word and so many tokens spells, unless an option, a state, a mode, `now`
--- or `wait`, or a flag is wrong.
 abbrev pub span_of : List (List ℕ) → Span
 span_of ts = record { start = value (token 3 ts); length = value (token 4 ts) }
 
@@ -156,6 +114,8 @@ both f None b = None
 both f (Some a) None = None
 both f (Some a) (Some b) = Some (f a b)
 
+-- The call that a line with this word and so many tokens spells, unless an option, a state, a mode, `now`
+-- or `wait`, or a flag is wrong.
 unfoldable pub call_of : Word → ℕ → List (List ℕ) → Option Call
 call_of word.Open count ts = option_map (open_with ts) (asked_in count ts)
 call_of word.Close count ts = Some (Close (value (token 2 ts)))
@@ -173,17 +133,28 @@ call_of word.Scavenge count ts = Some Scavenge
 call_of word.Tidy count ts = Some Tidy
 call_of word.Status count ts = option_map (λ flags. Status (tables_of flags)) (flags_in count ts)
 
--- what makes any call line bad
-unfoldable pub head_fault : Draft → Option Word → ℕ → List (List ℕ) → Option ℕ
-head_fault draft w count ts = first_fault (
+-- what makes a call line bad, whether its word is known or not
+abbrev pub head_faults : Draft → Option Word → ℕ → List (List ℕ) → List (ℕ × Bool)
+head_faults draft w count ts =
     (3, wrong_length w count)
     ∷ (4, not (is_u32 (token 0 ts)) || wrong_number w ts)
     ∷ (10, nat_le 20000 (length (planned_in draft)))
     ∷ (11, is_status w && nat_le 100 (statuses_in (planned_in draft)))
     ∷ (16, is_none draft.current)
     ∷ (17, not (is_declared draft.workers (value (token 0 ts))) || names_no_worker w draft ts)
-    ∷ (18, is_none w)
-    ∷ [])
+    ∷ []
+
+unfoldable pub head_fault : Draft → Option Word → ℕ → List (List ℕ) → Option ℕ
+head_fault draft w count ts = first_fault (head_faults draft w count ts)
+
+-- the word, or the reason where it is unknown or missing
+abbrev pub known : Option Word → Result Word ℕ
+known None = Err 18
+known (Some w) = Ok w
+
+-- the word of a call line, or the least reason up to 18 for which the line is bad
+abbrev pub head : Draft → Option Word → ℕ → List (List ℕ) → Result Word ℕ
+head draft w count ts = judged (head_fault draft w count ts) (known w)
 
 -- what makes an open line bad
 abbrev pub open_faults : Draft → List (List ℕ) → List (ℕ × Bool)
@@ -195,41 +166,34 @@ open_faults draft ts =
 
 unfoldable pub open_fault : Draft → Word → List (List ℕ) → Option ℕ
 open_fault draft word.Open ts = first_fault (open_faults draft ts)
-open_fault draft word.Close ts = None
-open_fault draft word.Ack ts = None
-open_fault draft word.Lock ts = None
-open_fault draft word.Unlock ts = None
-open_fault draft word.Read ts = None
-open_fault draft word.Write ts = None
-open_fault draft word.GLock ts = None
-open_fault draft word.GUnlock ts = None
-open_fault draft word.Recv ts = None
-open_fault draft word.Disconnect ts = None
-open_fault draft word.Reconnect ts = None
-open_fault draft word.Scavenge ts = None
-open_fault draft word.Tidy ts = None
-open_fault draft word.Status ts = None
+open_fault draft _ ts = None
 
--- what makes a call line bad whose word is known
-unfoldable pub tail_fault : Draft → Word → ℕ → List (List ℕ) → Option ℕ
-tail_fault draft w count ts = first_fault (
-    (22, is_none (call_of w count ts))
-    ∷ (23, has_stopped (value (token 0 ts)) (planned_in draft))
+-- what makes a call line bad where its worker had its stop, or by its own stop
+abbrev pub stop_faults : Draft → List (List ℕ) → List (ℕ × Bool)
+stop_faults draft ts =
+    (23, has_stopped (value (token 0 ts)) (planned_in draft))
     ∷ (24, has_stop ts && is_none (stop_of (last_token ts)))
-    ∷ [])
+    ∷ []
 
-abbrev pub or_else : Option ℕ → Option ℕ → Option ℕ
-or_else None other = other
-or_else (Some reason) other = Some reason
+unfoldable pub stop_fault : Draft → List (List ℕ) → Option ℕ
+stop_fault draft ts = first_fault (stop_faults draft ts)
 
-abbrev pub known_fault : Option Word → Draft → ℕ → List (List ℕ) → Option ℕ
-known_fault None draft count ts = None
-known_fault (Some w) draft count ts = or_else (open_fault draft w ts) (tail_fault draft w count ts)
+-- the call that is spelled, or the least reason from 22 on
+abbrev pub spelled : Draft → List (List ℕ) → Option Call → Result Call ℕ
+spelled draft ts None = Err 22
+spelled draft ts (Some call) = judged (stop_fault draft ts) (Ok call)
 
--- The least reason for which a call line is bad.
-unfoldable pub call_fault : Draft → List (List ℕ) → Option ℕ
-call_fault draft ts =
-    or_else (head_fault draft (word_of (token 1 ts)) (call_length ts) ts) (known_fault (word_of (token 1 ts)) draft (call_length ts) ts)
+-- the call of a line with this word, or the least reason from 19 on for which the line is bad
+abbrev pub tail : Draft → ℕ → List (List ℕ) → Word → Result Call ℕ
+tail draft count ts w = judged (open_fault draft w ts) (spelled draft ts (call_of w count ts))
+
+abbrev pub call_behind : Draft → ℕ → List (List ℕ) → Result Word ℕ → Result Call ℕ
+call_behind draft count ts (Ok w) = tail draft count ts w
+call_behind draft count ts (Err reason) = Err reason
+
+-- the call that a call line spells, or the least reason for which the line is bad
+unfoldable pub call_in : Draft → List (List ℕ) → Result Call ℕ
+call_in draft ts = call_behind draft (call_length ts) ts (head draft (word_of (token 1 ts)) (call_length ts) ts)
 
 abbrev pub planned_call : Draft → ℕ → Call → Option Point → Planned
 planned_call draft worker call stop = record { worker = worker; number = next_number draft worker; call = call; stop = stop }
@@ -237,34 +201,23 @@ planned_call draft worker call stop = record { worker = worker; number = next_nu
 abbrev pub with_call : Draft → ℕ → Call → Option Point → Draft
 with_call draft worker call stop = record draft { current = with_planned draft.current (planned_call draft worker call stop) }
 
--- the call of a good call line
-abbrev pub good_call : Option Word → ℕ → List (List ℕ) → Call
-good_call None count ts = Recv
-good_call (Some w) count ts = unwrap_or (call_of w count ts) Recv
+-- the call that is spelled is planned
+abbrev pub after_call : Draft → List (List ℕ) → Result Call ℕ → Result Draft ℕ
+after_call draft ts (Ok call) = Ok (with_call draft (value (token 0 ts)) call (planned_stop ts))
+after_call draft ts (Err reason) = Err reason
 
 unfoldable pub call_line : Draft → List (List ℕ) → Result Draft ℕ
-call_line draft ts =
-    checked (call_fault draft ts)
-    (with_call draft (value (token 0 ts)) (good_call (word_of (token 1 ts)) (call_length ts) ts) (planned_stop ts))
+call_line draft ts = after_call draft ts (call_in draft ts)
 
--- Built are opens without options and closes, of the first worker and without a stop.
-abbrev pub is_built_word : Option Word → ℕ → Bool
-is_built_word None count = false
-is_built_word (Some word.Open) count = count == 5
-is_built_word (Some word.Close) count = true
-is_built_word (Some word.Ack) count = false
-is_built_word (Some word.Lock) count = false
-is_built_word (Some word.Unlock) count = false
-is_built_word (Some word.Read) count = false
-is_built_word (Some word.Write) count = false
-is_built_word (Some word.GLock) count = false
-is_built_word (Some word.GUnlock) count = false
-is_built_word (Some word.Recv) count = false
-is_built_word (Some word.Disconnect) count = false
-is_built_word (Some word.Reconnect) count = false
-is_built_word (Some word.Scavenge) count = false
-is_built_word (Some word.Tidy) count = false
-is_built_word (Some word.Status) count = false
+-- the call where the word is known and what stands behind it is right
+abbrev pub known_call : Option Word → ℕ → List (List ℕ) → Option Call
+known_call None count ts = None
+known_call (Some w) count ts = call_of w count ts
 
+-- the call that the tokens of a call line spell
+abbrev pub spelled_call : List (List ℕ) → Option Call
+spelled_call ts = known_call (word_of (token 1 ts)) (call_length ts) ts
+
+-- Built are calls of the built forms, of the first worker and without a stop.
 unfoldable pub is_built_call : List (List ℕ) → Bool
-is_built_call ts = is_number 1 1 (token 0 ts) && not (has_stop ts) && is_built_word (word_of (token 1 ts)) (length ts)
+is_built_call ts = (value (token 0 ts) == 1) && not (has_stop ts) && option_map_or is_built (spelled_call ts) false

@@ -1,14 +1,16 @@
 -- Which histories fit a script.
-use Rattle.std.specs.Prelude.{◌≡◌, ℕ, Bool, true, false, ◌==◌, ◌&&◌, cond, IsTrue, List, [], ◌∷◌, ◌++◌, take, Option, Some, None}
+use Rattle.std.specs.Prelude.{◌≡◌, ℕ, ◌+◌, ◌⊎◌, Bool, true, false, ◌==◌, ◌&&◌, cond, IsTrue, List, [], ◌∷◌, ◌++◌, Option, Some, None, is_some}
 use Rattle.std.specs.List.{AllByRecursion, list_any}
 use Rattle.sid_core.specs.declared.call.Call.{Call}
-use Rattle.sid_core.specs.declared.call.Call.TheVariants.{OpenFile, Close, Ack, Lock, Unlock, Read, Write, GLock, GUnlock, Recv, Disconnect, Reconnect, Scavenge, Tidy, Status}
+use Rattle.sid_core.specs.declared.call.Call.TheVariants.{Tidy}
 use Rattle.sid_core.specs.declared.entry.Entry.{Entry}
 use Rattle.sid_core.specs.declared.entry.Event.{Event}
 use Rattle.sid_core.specs.declared.entry.Event.TheVariants.{Called, Died, Tidied}
 use Rattle.sid_core.specs.declared.ids.Moment.{Moment}
 use Rattle.sid_core.specs.declared.outside.Point.{Point}
 use Rattle.sid_core.specs.declared.outside.Point.TheVariants as point
+use Rattle.sid_core.specs.declared.setup.Setup.{Setup}
+use Rattle.sid_core.specs.Setup.{IsDeclared}
 use Rattle.worker_script.specs.declared.script.Planned.{Planned}
 use Rattle.worker_script.specs.declared.script.Phase.{Phase}
 use Rattle.worker_script.specs.declared.script.Script.{Script}
@@ -50,28 +52,30 @@ IsAt now (Called number moment call reply) = moment ≡ now
 IsAt now (Died worker moment) = moment ≡ now
 IsAt now (Tidied chain) = Unit {0}
 
--- No script that is read has a stop yet, so nobody dies.
-abbrev pub IsNoDeath : Event → Type 0
-IsNoDeath (Called number moment call reply) = Unit {0}
-IsNoDeath (Died worker moment) = ⊥
-IsNoDeath (Tidied chain) = Unit {0}
+-- whether this worker dies in this event
+abbrev pub is_death_of : ℕ → Event → Bool
+is_death_of worker (Called number moment call reply) = false
+is_death_of worker (Died dead moment) = dead == worker
+is_death_of worker (Tidied chain) = false
+
+-- how many of these entries are deaths of a worker
+abbrev pub deaths_of : ℕ → List Entry → ℕ
+deaths_of worker [] = 0
+deaths_of worker (entry ∷ entries) = cond (is_death_of worker entry.what) 1 0 + deaths_of worker entries
+
+-- in how many of these calls a worker is to die
+abbrev pub stops_of : ℕ → List Planned → ℕ
+stops_of worker [] = 0
+stops_of worker (planned ∷ calls) = cond ((planned.worker == worker) && is_some planned.stop) 1 0 + stops_of worker calls
+
+-- A worker makes no call after its death.
+abbrev pub CallsBeforeDeath : ℕ → List Entry → Type 0
+CallsBeforeDeath worker [] = Unit {0}
+CallsBeforeDeath worker (entry ∷ entries) = (IsTrue (is_death_of worker entry.what) → calls_of worker entries ≡ []) × CallsBeforeDeath worker entries
 
 abbrev pub is_tidy : Call → Bool
-is_tidy (OpenFile file access share lease durable overwrite) = false
-is_tidy (Close handle) = false
-is_tidy (Ack key state) = false
-is_tidy (Lock handle span mode wait) = false
-is_tidy (Unlock handle span) = false
-is_tidy (Read handle span) = false
-is_tidy (Write handle span) = false
-is_tidy (GLock key mode wait) = false
-is_tidy (GUnlock key) = false
-is_tidy Recv = false
-is_tidy Disconnect = false
-is_tidy (Reconnect worker call key) = false
-is_tidy Scavenge = false
 is_tidy Tidy = true
-is_tidy (Status tables) = false
+is_tidy _ = false
 
 -- The worker has a `tidy` call among these.
 abbrev pub tidies : ℕ → List Planned → Bool
@@ -86,12 +90,13 @@ IsTidiedBy calls entry = by_event entry.what
     by_event (Died worker moment) = Unit {0}
     by_event (Tidied chain) = IsTrue (tidies entry.by calls)
 
--- These entries are what a phase plans: at its moment, each worker's planned calls in their order, each
--- once, and nothing else but tidied chains.
+-- These entries are what a phase plans, at its moment: each worker's planned calls in their order, each
+-- once, and its death after them where one of them has a stop. Nothing else is there but tidied chains.
 pub record FitsPhase (phase : Phase) (here : List Entry) : Type 0 where
   pub moment : AllByRecursion (λ entry. IsAt phase.moment entry.what) here
   pub calls : (worker : ℕ) → calls_of worker here ≡ planned_of worker phase.calls
-  pub deaths : AllByRecursion (λ entry. IsNoDeath entry.what) here
+  pub deaths : (worker : ℕ) → deaths_of worker here ≡ stops_of worker phase.calls
+  pub last : (worker : ℕ) → CallsBeforeDeath worker here
   pub tidied : AllByRecursion (IsTidiedBy phase.calls) here
 
 -- The entries are those of the phases, one phase after another.
@@ -100,10 +105,31 @@ FitsPhases [] entries = entries ≡ []
 FitsPhases (phase ∷ phases) entries =
     (here : List Entry) × (rest : List Entry) × (entries ≡ here ++ rest) × FitsPhase phase here × FitsPhases phases rest
 
--- the whole script
-abbrev pub Fits : Script → List Entry → Type 0
-Fits script entries = FitsPhases script.phases entries
+-- a declared worker other than this one that isn't among the dead
+pub record IsOtherAlive (setup : Setup) (dead : List ℕ) (worker by : ℕ) : Type 0 where
+  pub declared : IsDeclared setup.workers by
+  pub other : (by == worker) ≡ false
+  pub alive : list_any (λ one. one == by) dead ≡ false
 
--- the first phases of a script
-abbrev pub FitsFirst : ℕ → Script → List Entry → Type 0
-FitsFirst count script entries = FitsPhases (take count script.phases) entries
+-- A death is entered by 0, which is the runner, or by another worker that is alive.
+abbrev pub IsEnteredBy : Setup → List ℕ → ℕ → Event → Type 0
+IsEnteredBy setup dead by (Called number moment call reply) = Unit {0}
+IsEnteredBy setup dead by (Died worker moment) = (by ≡ 0) ⊎ IsOtherAlive setup dead worker by
+IsEnteredBy setup dead by (Tidied chain) = Unit {0}
+
+-- the dead after an event
+abbrev pub dead_after : List ℕ → Event → List ℕ
+dead_after dead (Called number moment call reply) = dead
+dead_after dead (Died worker moment) = worker ∷ dead
+dead_after dead (Tidied chain) = dead
+
+-- the same of each death, behind entries in which these workers died
+abbrev pub AreEnteredByLiving : Setup → List ℕ → List Entry → Type 0
+AreEnteredByLiving setup dead [] = Unit {0}
+AreEnteredByLiving setup dead (entry ∷ entries) =
+    IsEnteredBy setup dead entry.by entry.what × AreEnteredByLiving setup (dead_after dead entry.what) entries
+
+-- The history has what the phases plan, and each death in it is entered by the runner or by a living worker.
+pub record Fits (script : Script) (entries : List Entry) : Type 0 where
+  pub phases : FitsPhases script.phases entries
+  pub entered : AreEnteredByLiving script.setup [] entries

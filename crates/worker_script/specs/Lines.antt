@@ -30,22 +30,26 @@ script_of draft = record { setup = record { workers = draft.workers; files = dra
 abbrev pub planned_in : Draft → List Planned
 planned_in draft = all_calls (phases_of draft)
 
--- A fault that a line may have: its reason, and whether the line has it. Of those that it has, the one
--- with the least reason is told.
+-- A fault that a line may have is its reason, and whether the line has it. The first one that the line has
+-- is told. The reasons of each list below rise, so that is the one with the least reason.
 abbrev pub first_fault : List (ℕ × Bool) → Option ℕ
 first_fault [] = None
 first_fault (fault ∷ faults) = cond fault.1 (Some fault.0) (first_fault faults)
 
+-- the fault, or else the answer
+abbrev pub judged : {X : Type 0} → Option ℕ → Result X ℕ → Result X ℕ
+judged None answer = answer
+judged (Some reason) answer = Err reason
+
 abbrev pub checked : Option ℕ → Draft → Result Draft ℕ
-checked None draft = Ok draft
-checked (Some reason) draft = Err reason
+checked fault draft = judged fault (Ok draft)
 
 -- `worker W PID UID GUID MACHINE SHARE`
 abbrev pub are_worker_numbers : List (List ℕ) → Bool
 are_worker_numbers ts = is_u32 (token 1 ts) && is_number 1 (2 ^ 32 - 1) (token 2 ts) && is_u32 (token 3 ts) && is_u64 (token 4 ts)
 
-unfoldable pub worker_fault : Draft → List (List ℕ) → Option ℕ
-worker_fault draft ts = first_fault (
+abbrev pub worker_faults : Draft → List (List ℕ) → List (ℕ × Bool)
+worker_faults draft ts =
     (3, not (length ts == 7))
     ∷ (4, not (are_worker_numbers ts))
     ∷ (5, is_some draft.current)
@@ -53,7 +57,10 @@ worker_fault draft ts = first_fault (
     ∷ (7, nat_le 64 (length draft.workers))
     ∷ (12, list_any (λ worker. worker.pid == value (token 2 ts)) draft.workers)
     ∷ (14, not (is_short (token 5 ts) && is_short (token 6 ts)))
-    ∷ [])
+    ∷ []
+
+unfoldable pub worker_fault : Draft → List (List ℕ) → Option ℕ
+worker_fault draft ts = first_fault (worker_faults draft ts)
 
 abbrev pub worker_info : List (List ℕ) → WorkerInfo
 worker_info ts = record {
@@ -75,8 +82,8 @@ are_file_numbers ts = is_u32 (token 1 ts) && is_u64 (token 2 ts) && is_u64 (toke
 abbrev pub is_place : ℕ → ℕ → FileInfo → Bool
 is_place dev inode file = (file.dev == dev) && (file.inode == inode)
 
-unfoldable pub file_fault : Draft → List (List ℕ) → Option ℕ
-file_fault draft ts = first_fault (
+abbrev pub file_faults : Draft → List (List ℕ) → List (ℕ × Bool)
+file_faults draft ts =
     (3, not (length ts == 6))
     ∷ (4, not (are_file_numbers ts))
     ∷ (5, is_some draft.current)
@@ -84,7 +91,10 @@ file_fault draft ts = first_fault (
     ∷ (8, nat_le 10000 (length draft.files))
     ∷ (13, list_any (is_place (value (token 2 ts)) (value (token 3 ts))) draft.files)
     ∷ (14, not (is_short (token 4 ts) && is_short (token 5 ts)))
-    ∷ [])
+    ∷ []
+
+unfoldable pub file_fault : Draft → List (List ℕ) → Option ℕ
+file_fault draft ts = first_fault (file_faults draft ts)
 
 abbrev pub file_info : List (List ℕ) → FileInfo
 file_info ts = record { dev = value (token 2 ts); inode = value (token 3 ts); path = token 4 ts; name = token 5 ts }
@@ -97,13 +107,16 @@ abbrev pub moment_of : Option Phase → ℕ
 moment_of None = 0
 moment_of (Some phase) = phase.moment.0
 
-unfoldable pub phase_fault : Draft → List (List ℕ) → Option ℕ
-phase_fault draft ts = first_fault (
+abbrev pub phase_faults : Draft → List (List ℕ) → List (ℕ × Bool)
+phase_faults draft ts =
     (3, not (length ts == 2))
     ∷ (4, not (is_number 0 9999999999 (token 1 ts)))
     ∷ (9, nat_le 10000 (length (phases_of draft)))
     ∷ (15, nat_lt (value (token 1 ts)) (moment_of draft.current))
-    ∷ [])
+    ∷ []
+
+unfoldable pub phase_fault : Draft → List (List ℕ) → Option ℕ
+phase_fault draft ts = first_fault (phase_faults draft ts)
 
 abbrev pub new_phase : ℕ → Phase
 new_phase moment = record { moment = record { 0 = moment }; calls = [] }

@@ -7,7 +7,7 @@ use Rattle.std.specs.Ordering.{nat_cmp, ordering_then}
 use Rattle.worker_script.specs.declared.fault.Fault.{Fault}
 use Rattle.worker_script.specs.declared.fault.Fault.TheVariants.{Bad, NoMemory}
 use Rattle.worker_script.specs.declared.script.Planned.{Planned}
-use Rattle.worker_script.specs.declared.reader.Seat.{Seat}
+use Rattle.worker_script.specs.declared.reader.Tally.{Tally}
 use Rattle.worker_script.specs.declared.reader.Reader.{Reader}
 use Rattle.worker_script.specs.Lines.{Draft, planned_in, is_place}
 use Rattle.worker_script.specs.Script.{numbers_of}
@@ -21,11 +21,11 @@ abbrev pub place_cmp : ℕ × ℕ → ℕ × ℕ → Ordering
 place_cmp a b = ordering_then (nat_cmp a.0 b.0) (nat_cmp a.1 b.1)
 
 -- what is planned for a worker: how many calls, and whether it dies in one
-abbrev pub seat_in : List Planned → ℕ → Seat
-seat_in calls worker = record { made = length (numbers_of worker calls); stopped = has_stopped worker calls }
+abbrev pub tally_in : List Planned → ℕ → Tally
+tally_in calls worker = record { made = length (numbers_of worker calls); stopped = has_stopped worker calls }
 
-abbrev pub no_seat : Seat
-no_seat = record { made = 0; stopped = false }
+abbrev pub no_tally : Tally
+no_tally = record { made = 0; stopped = false }
 
 -- Beside what the lines say: where the files are, and how many calls there are.
 pub record IsReader (reader : Reader) : Type 0 where
@@ -38,9 +38,9 @@ pub record IsReader (reader : Reader) : Type 0 where
   pub few_calls : reader.calls ≤ 20000
   pub statuses : reader.statuses ≡ statuses_in (planned_in (draft_of reader))
   pub few_statuses : reader.statuses ≤ reader.calls
-  pub seats : length reader.seats.items ≡ length reader.workers
-  pub each_seat : (i : ℕ) → i < length reader.seats.items
-      → slice_index_or reader.seats.items i no_seat ≡ seat_in (planned_in (draft_of reader)) (i + 1)
+  pub tallies : length reader.tallies.items ≡ length reader.workers
+  pub each_tally : (i : ℕ) → i < length reader.tallies.items
+      → slice_index_or reader.tallies.items i no_tally ≡ tally_in (planned_in (draft_of reader)) (i + 1)
 
 -- Which fault was found, or what the line's numbers are.
 abbrev pub Finds : {X : Type 0} → Option ℕ → X → Result X ℕ → Type 0

@@ -1,8 +1,8 @@
 -- What holds of every script that is read.
-use Rattle.std.specs.Prelude.{◌≡◌, ℕ, ◌+◌, ◌≤◌, false, ◌==◌, cond, List, [], ◌∷◌, ◌++◌, length, map, None}
+use Rattle.std.specs.Prelude.{◌≡◌, ℕ, zero, ◌+◌, ◌≤◌, Bool, true, false, ◌==◌, cond, IsTrue, List, [], ◌∷◌, ◌++◌, length, map, None}
 use Rattle.std.specs.List.{AllByRecursion, flat_map}
 use Rattle.sid_core.specs.declared.call.Call.{Call}
-use Rattle.sid_core.specs.declared.call.Call.TheVariants.{OpenFile, Close, Ack, Lock, Unlock, Read, Write, GLock, GUnlock, Recv, Disconnect, Reconnect, Scavenge, Tidy, Status}
+use Rattle.sid_core.specs.declared.call.Call.TheVariants.{OpenFile, Close}
 use Rattle.sid_core.specs.declared.setup.Setup.{Setup}
 use Rattle.sid_core.specs.Values.{IsMoment}
 use Rattle.sid_core.specs.Setup.{IsSetup, IsDeclared}
@@ -34,30 +34,22 @@ NeverFallsFrom m [] = Unit {0}
 NeverFallsFrom m (n ∷ ns) = (m ≤ n) × NeverFallsFrom n ns
 
 -- the calls that are built: an open that asks for no lease, isn't durable and doesn't overwrite, and a close
-abbrev pub IsBuiltCall : Call → Type 0
-IsBuiltCall (OpenFile file access share lease durable overwrite) = (lease ≡ None) × (durable ≡ 0) × (overwrite ≡ false)
-IsBuiltCall (Close handle) = Unit {0}
-IsBuiltCall (Ack key state) = ⊥
-IsBuiltCall (Lock handle span mode wait) = ⊥
-IsBuiltCall (Unlock handle span) = ⊥
-IsBuiltCall (Read handle span) = ⊥
-IsBuiltCall (Write handle span) = ⊥
-IsBuiltCall (GLock key mode wait) = ⊥
-IsBuiltCall (GUnlock key) = ⊥
-IsBuiltCall Recv = ⊥
-IsBuiltCall Disconnect = ⊥
-IsBuiltCall (Reconnect worker call key) = ⊥
-IsBuiltCall Scavenge = ⊥
-IsBuiltCall Tidy = ⊥
-IsBuiltCall (Status tables) = ⊥
+abbrev pub is_built : Call → Bool
+is_built (OpenFile file access share None zero false) = true
+is_built (Close handle) = true
+is_built _ = false
+
+-- what is planned until more is built: calls of the first worker alone, of the built forms and without a stop
+pub record IsBuiltPlan (planned : Planned) : Type 0 where
+  pub no_stop : planned.stop ≡ None
+  pub of_first_worker : planned.worker ≡ 1
+  pub call : IsTrue (is_built planned.call)
 
 pub record IsPlanned (setup : Setup) (planned : Planned) : Type 0 where
   pub worker : IsDeclared setup.workers planned.worker
   pub number : (1 ≤ planned.number) × (planned.number ≤ 20000)
   pub call : IsCall setup planned.call
-  pub no_stop : planned.stop ≡ None
-  pub of_first_worker : planned.worker ≡ 1
-  pub built : IsBuiltCall planned.call
+  pub built : IsBuiltPlan planned
 
 pub record IsPhase (setup : Setup) (phase : Phase) : Type 0 where
   pub moment : IsMoment phase.moment.0

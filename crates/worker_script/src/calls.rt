@@ -1,9 +1,9 @@
-ghost use Rattle.std.specs.Prelude.{◌≡◌, ◌<◌, ◌≤◌, Some, OnOk, IfOk, IsSome, IsTrue, true, false, length};
+ghost use Rattle.std.specs.Prelude.{◌≡◌, ◌<◌, ◌≤◌, Some, Ok, Err, OnOk, IfOk, IfErr, IsSome, true, false, length};
 ghost use Rattle.worker_script.specs.Text.{tokens, token};
 ghost use Rattle.worker_script.specs.Values.{value, is_u32};
 ghost use Rattle.worker_script.specs.Lines.{is_declared, planned_in};
-ghost use Rattle.worker_script.specs.Calls.{are_numbers, wrong_number, names_no_worker, has_stopped, planned_stop, head_fault, open_fault, tail_fault, known_fault, call_of, call_length, good_call, call_fault, call_line};
-ghost use Rattle.worker_script.specs.Words.{word_of};
+ghost use Rattle.worker_script.specs.Calls.{are_numbers, wrong_number, names_no_worker, planned_stop, head_fault, open_fault, stop_fault, spelled, tail, call_in, call_of, call_line, spelled_call, is_built_call};
+ghost use Rattle.worker_script.specs.Script.{is_built};
 ghost use Rattle.worker_script.specs.Reader.{draft_of, IsReader, Finds, Reads};
 
 use crate::access::{access, share};
@@ -51,7 +51,7 @@ impl Reader {
         }
     }
 
-    // What makes any call line bad, or its worker.
+    // What makes a call line bad whether its word is known or not, or its worker.
     #[tactic(auto, unfolding(crate::specs::Calls::head_fault))]
     fn head_fault(&self, word: Option<Word>, count: usize, line: &[u8]) -> Result<u32, u32>
         requires { IsReader self.now }
@@ -82,9 +82,6 @@ impl Reader {
         }
         if !self.has_worker(worker) || self.names_no_worker(word, line) {
             return Err(17);
-        }
-        if word.is_none() {
-            return Err(18);
         }
         Ok(worker)
     }
@@ -118,58 +115,63 @@ impl Reader {
         Ok(())
     }
 
-    // What else makes a call line bad, or its call.
-    #[tactic(auto, unfolding(crate::specs::Calls::tail_fault))]
-    fn tail_fault(&self, word: Word, worker: u32, count: usize, line: &[u8]) -> Result<Call, u32>
+    // What makes a call line bad where its worker had its stop, or by its own stop.
+    #[tactic(auto, unfolding(crate::specs::Calls::stop_fault))]
+    fn stop_fault(&self, worker: u32, line: &[u8]) -> Result<(), u32>
         requires reader { IsReader self.now }
-        requires numbers { are_numbers word (tokens line.now) ≡ true }
         requires worker { worker ≡ value (token 0 (tokens line.now)) }
         requires some { 1 ≤ worker }
         requires declared { worker ≤ length self.now.workers }
-        ensures { Finds (tail_fault (draft_of self.now) word count (tokens line.now)) (good_call (Some word) count (tokens line.now)) result }
+        ensures { Finds (stop_fault (draft_of self.now) (tokens line.now)) tt result }
     {
-        let Some(call) = call_of(word, count, line) else {
-            return Err(22);
-        };
         if self.has_stopped(worker) {
             return Err(23);
         }
         if has_stop(line) && stop_of(last_token(line)).is_none() {
             return Err(24);
         }
-        Ok(call)
+        Ok(())
     }
 
-    // What makes a call line bad whose word may be known, or its call.
-    fn known_fault(
-        &self,
-        word: Option<Word>,
-        worker: u32,
-        count: usize,
-        line: &[u8],
-    ) -> Result<Call, u32>
+    // The call that is spelled, or what makes the line bad from reason 22 on.
+    fn spelled(&self, word: Word, worker: u32, count: usize, line: &[u8]) -> Result<Call, u32>
         requires reader { IsReader self.now }
-        requires numbers { wrong_number word (tokens line.now) ≡ false }
+        requires numbers { are_numbers word (tokens line.now) ≡ true }
         requires worker { worker ≡ value (token 0 (tokens line.now)) }
         requires some { 1 ≤ worker }
         requires declared { worker ≤ length self.now.workers }
-        ensures { Finds (known_fault word (draft_of self.now) count (tokens line.now)) (good_call word count (tokens line.now)) result }
+        ensures judged { result ≡ spelled (draft_of self.now) (tokens line.now) (call_of word count (tokens line.now)) }
+        ensures call { IfOk result (λ call. call_of word count (tokens line.now) ≡ Some call) }
     {
-        match word {
-            None => Ok(Call::Recv),
-            Some(word) => {
-                self.open_fault(word, line)?;
-                self.tail_fault(word, worker, count, line)
-            }
-        }
+        let Some(call) = call_of(word, count, line) else {
+            return Err(22);
+        };
+        self.stop_fault(worker, line)?;
+        Ok(call)
     }
 
-    // What makes a call line bad, or its worker and its call.
-    #[tactic(auto, unfolding(crate::specs::Calls::call_fault))]
-    fn call_fault(&self, line: &[u8]) -> Result<(u32, Call), u32>
+    // The call of a line with this word, or what makes the line bad from reason 19 on.
+    fn tail(&self, word: Word, worker: u32, count: usize, line: &[u8]) -> Result<Call, u32>
+        requires reader { IsReader self.now }
+        requires numbers { are_numbers word (tokens line.now) ≡ true }
+        requires worker { worker ≡ value (token 0 (tokens line.now)) }
+        requires some { 1 ≤ worker }
+        requires declared { worker ≤ length self.now.workers }
+        ensures judged { result ≡ tail (draft_of self.now) count (tokens line.now) word }
+        ensures call { IfOk result (λ call. call_of word count (tokens line.now) ≡ Some call) }
+    {
+        self.open_fault(word, line)?;
+        self.spelled(word, worker, count, line)
+    }
+
+    // The worker and the call of a call line, or what makes it bad.
+    #[tactic(auto, unfolding(crate::specs::Calls::call_in))]
+    fn call_in(&self, line: &[u8]) -> Result<(u32, Call), u32>
         requires { IsReader self.now }
-        ensures fault { let ts = tokens line.now in
-            Finds (call_fault (draft_of self.now) ts) (value (token 0 ts), good_call (word_of (token 1 ts)) (call_length ts) ts) result }
+        ensures call { IfOk result (λ found. call_in (draft_of self.now) (tokens line.now) ≡ Ok found.1) }
+        ensures fault { IfErr result (λ reason. call_in (draft_of self.now) (tokens line.now) ≡ Err reason) }
+        ensures worker { IfOk result (λ found. found.0 ≡ value (token 0 (tokens line.now))) }
+        ensures spelled { IfOk result (λ found. spelled_call (tokens line.now) ≡ Some found.1) }
         ensures room { OnOk result (self.now.calls < 20000) }
         ensures phase { OnOk result (IsSome self.now.current) }
         ensures some { IfOk result (λ found. 1 ≤ found.0) }
@@ -178,17 +180,38 @@ impl Reader {
         let count = call_length(line);
         let word = word_of(token_at(1, line));
         let worker = self.head_fault(word, count, line)?;
-        let call = self.known_fault(word, worker, count, line)?;
+        let Some(word) = word else {
+            return Err(18);
+        };
+        let call = self.tail(word, worker, count, line)?;
         Ok((worker, call))
     }
 
-    /// Takes a call line.
-    #[tactic(auto, unfolding(crate::specs::Calls::call_line))]
-    pub fn call_line(&mut self, line: &[u8]) -> Result<(), Fault>
+    /// Takes a call line, and tells whether its form is built.
+    #[tactic(auto, unfolding(crate::specs::Calls::call_line, crate::specs::Calls::is_built_call))]
+    pub fn call_line(&mut self, line: &[u8]) -> Result<bool, Fault>
         requires { IsReader self.old }
-        ensures { Reads (call_line (draft_of self.old) (tokens line.now)) self.new result }
+        ensures reads { Reads (call_line (draft_of self.old) (tokens line.now)) self.new result }
+        ensures built { IfOk result (λ built. built ≡ is_built_call (tokens line.now)) }
     {
-        let (worker, call) = self.call_fault(line)?;
-        self.plan(worker, call, planned_stop(line))
+        let (worker, call) = self.call_in(line)?;
+        self.plan(worker, call, planned_stop(line))?;
+        Ok(worker == 1 && !has_stop(line) && is_built(&call))
+    }
+}
+
+// Whether a call is of a form that is built.
+fn is_built(call: &Call) -> bool
+    ensures { result ≡ is_built call.now }
+{
+    match call {
+        Call::OpenFile {
+            lease,
+            durable,
+            overwrite,
+            ..
+        } => lease.is_none() && *durable == 0 && !*overwrite,
+        Call::Close { .. } => true,
+        _ => false,
     }
 }

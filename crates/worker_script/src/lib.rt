@@ -20,7 +20,7 @@ mod word;
 mod worker;
 
 pub use error::Parse;
-pub use parsing::parse;
+pub use parsing::{LIMIT, parse};
 pub use script::{Phase, Planned, Script};
 
 #[cfg(test)]

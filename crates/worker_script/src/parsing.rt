@@ -3,8 +3,9 @@ ghost use Rattle.worker_script.specs.Text.{tokens};
 ghost use Rattle.worker_script.specs.Lines.{script_of};
 ghost use Rattle.worker_script.specs.Script.{IsScript};
 ghost use Rattle.worker_script.specs.Reader.{draft_of, IsReader, Reads};
-ghost use Rattle.worker_script.specs.Reading.{word_line, read_line, is_built, answer};
+ghost use Rattle.worker_script.specs.Reading.{word_line, read_line, is_built_line, answer};
 ghost use Rattle.worker_script.specs.Answer.{Parses, at_line, earlier};
+ghost use Rattle.worker_script.specs.declared.parsing.TheConstants.{LIMIT};
 
 use crate::error::Parse;
 use crate::fault::Fault;
@@ -12,25 +13,32 @@ use crate::number::are_digits;
 use crate::phase::push_phase;
 use crate::reader::Reader;
 use crate::script::Script;
-use crate::shape::is_built_call;
 use crate::text::{first_part, is_plain_line, is_skipped, token_at};
 use sid_core::{OutOfMemory, Setup};
 use std::alloc::Global;
 
-#[tactic(auto, unfolding(crate::specs::Reading::word_line))]
-fn word_line(reader: &mut Reader, line: &[u8]) -> Result<(), Fault>
+/// How many bytes a text may have.
+pub const LIMIT: usize = 4_194_304;
+
+// Takes a line, and tells whether its form is built.
+#[tactic(auto, using(crate::proofs::Facts::worker_no_digits, crate::proofs::Facts::file_no_digits, crate::proofs::Facts::phase_no_digits), unfolding(crate::specs::Reading::word_line, crate::specs::Reading::is_built_line))]
+fn word_line(reader: &mut Reader, line: &[u8]) -> Result<bool, Fault>
     requires { IsReader reader.old }
-    ensures { Reads (word_line (draft_of reader.old) (tokens line.now)) reader.new result }
+    ensures reads { Reads (word_line (draft_of reader.old) (tokens line.now)) reader.new result }
+    ensures built { IfOk result (λ built. built ≡ is_built_line line.now) }
 {
     let word = token_at(0, line);
     if is_skipped(word) {
-        Ok(())
+        Ok(true)
     } else if word == b"worker".as_slice() {
-        reader.worker_line(line)
+        reader.worker_line(line)?;
+        Ok(true)
     } else if word == b"file".as_slice() {
-        reader.file_line(line)
+        reader.file_line(line)?;
+        Ok(true)
     } else if word == b"phase".as_slice() {
-        reader.phase_line(line)
+        reader.phase_line(line)?;
+        Ok(true)
     } else if are_digits(word) {
         reader.call_line(line)
     } else {
@@ -39,9 +47,10 @@ fn word_line(reader: &mut Reader, line: &[u8]) -> Result<(), Fault>
 }
 
 #[tactic(auto, unfolding(crate::specs::Reading::read_line))]
-fn read_line(reader: &mut Reader, line: &[u8]) -> Result<(), Fault>
+fn read_line(reader: &mut Reader, line: &[u8]) -> Result<bool, Fault>
     requires { IsReader reader.old }
-    ensures { Reads (read_line (draft_of reader.old) line.now) reader.new result }
+    ensures reads { Reads (read_line (draft_of reader.old) line.now) reader.new result }
+    ensures built { IfOk result (λ built. built ≡ is_built_line line.now) }
 {
     if !is_plain_line(line) {
         return Err(Fault::Bad(1));
@@ -62,7 +71,7 @@ fn into_script(reader: Reader) -> Result<Script, OutOfMemory>
         current,
         calls: _,
         statuses: _,
-        seats: _,
+        tallies: _,
     } = reader;
     push_phase(&mut phases, current)?;
     Ok(Script {
@@ -80,17 +89,8 @@ fn at_line(line: u32, fault: Fault) -> Parse
     }
 }
 
-// Whether the form of a line is built.
-#[tactic(auto, unfolding(crate::specs::Reading::is_built))]
-fn is_built(line: &[u8]) -> bool
-    ensures { result ≡ is_built line.now }
-{
-    let word = token_at(0, line);
-    is_skipped(word) || !are_digits(word) || is_built_call(line)
-}
-
 fn read(alloc: Global, bytes: &[u8]) -> Result<Script, Parse>
-    requires { length bytes.now ≤ 4194304 }
+    requires { length bytes.now ≤ LIMIT }
     ensures { Parses (answer bytes.now) result }
 {
     let mut reader = Reader::new(alloc);
@@ -99,10 +99,11 @@ fn read(alloc: Global, bytes: &[u8]) -> Result<Script, Parse>
     let mut rest = bytes;
     while !rest.is_empty() {
         let (line, after) = first_part(b'\n', rest);
-        if let Err(fault) = read_line(&mut reader, line) {
-            return Err(at_line(number, fault));
-        }
-        unbuilt = earlier(unbuilt, number, is_built(line));
+        let built = match read_line(&mut reader, line) {
+            Ok(built) => built,
+            Err(fault) => return Err(at_line(number, fault)),
+        };
+        unbuilt = earlier(unbuilt, number, built);
         number += 1;
         rest = after;
     }
@@ -125,7 +126,7 @@ fn earlier(unbuilt: Option<u32>, number: u32, built: bool) -> Option<u32>
 
 /// The script that a text spells.
 pub fn parse(alloc: Global, bytes: &[u8]) -> Result<Script, Parse>
-    requires { length bytes.now ≤ 4194304 }
+    requires { length bytes.now ≤ LIMIT }
     // The script is the one that the text spells, the bad line the first one with its least reason, and
     // the line that isn't built the first one of a script.
     ensures exact { Parses (answer bytes.now) result }

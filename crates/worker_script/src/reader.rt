@@ -1,7 +1,7 @@
 ghost use Rattle.std.specs.Prelude.{◌≡◌, ◌<◌, ◌≤◌, ◌-◌, ◌||◌, OnOk, IsSome, Ok, length, slice_index_or, slice_set, is_some, if◌then◌else◌};
 ghost use Rattle.worker_script.specs.Lines.{nothing, with_planned, planned_in, next_number};
 ghost use Rattle.worker_script.specs.Calls.{with_call, has_stopped, is_status_call};
-ghost use Rattle.worker_script.specs.Reader.{draft_of, no_seat, IsReader, Reads};
+ghost use Rattle.worker_script.specs.Reader.{draft_of, no_tally, IsReader, Reads};
 
 use crate::fault::Fault;
 use crate::script::{Phase, Planned};
@@ -11,7 +11,7 @@ use std::collections::BTreeSet;
 
 /// What is planned for a worker: how many calls, and whether it dies in one of them.
 #[derive(Clone, Copy, Debug, PartialEq, Eq)]
-pub(crate) struct Seat {
+pub(crate) struct Tally {
     pub made: u32,
     pub stopped: bool,
 }
@@ -31,7 +31,7 @@ pub(crate) struct Reader {
     pub calls: u32,
     pub statuses: u32,
     /// By worker.
-    pub seats: Vec<Seat>,
+    pub tallies: Vec<Tally>,
 }
 
 impl Reader {
@@ -48,7 +48,7 @@ impl Reader {
             current: None,
             calls: 0,
             statuses: 0,
-            seats: Vec::new(alloc),
+            tallies: Vec::new(alloc),
         }
     }
 
@@ -72,10 +72,10 @@ impl Reader {
         push_planned(&mut self.current, planned)?;
         self.calls += 1;
         self.statuses += count_of(is_status_call(&call));
-        set_seat(
-            &mut self.seats,
+        set_tally(
+            &mut self.tallies,
             worker,
-            Seat {
+            Tally {
                 made: number,
                 stopped,
             },
@@ -91,7 +91,7 @@ impl Reader {
         requires declared { worker ≤ length self.now.workers }
         ensures { result ≡ next_number (draft_of self.now) worker }
     {
-        seat_of(&self.seats, worker).made + 1
+        tally_of(&self.tallies, worker).made + 1
     }
 
     /// Whether a worker dies in a planned call.
@@ -101,24 +101,24 @@ impl Reader {
         requires declared { worker ≤ length self.now.workers }
         ensures { result ≡ has_stopped worker (planned_in (draft_of self.now)) }
     {
-        seat_of(&self.seats, worker).stopped
+        tally_of(&self.tallies, worker).stopped
     }
 }
 
-fn seat_of(seats: &Vec<Seat>, worker: u32) -> Seat
+fn tally_of(tallies: &Vec<Tally>, worker: u32) -> Tally
     requires some { 1 ≤ worker }
-    requires within { worker ≤ length seats.now.items }
-    ensures { result ≡ slice_index_or seats.now.items (worker - 1) no_seat }
+    requires within { worker ≤ length tallies.now.items }
+    ensures { result ≡ slice_index_or tallies.now.items (worker - 1) no_tally }
 {
-    seats[worker as usize - 1]
+    tallies[worker as usize - 1]
 }
 
-fn set_seat(seats: &mut Vec<Seat>, worker: u32, seat: Seat)
+fn set_tally(tallies: &mut Vec<Tally>, worker: u32, tally: Tally)
     requires some { 1 ≤ worker }
-    requires within { worker ≤ length seats.old.items }
-    ensures { seats.new.items ≡ slice_set seats.old.items (worker - 1) seat }
+    requires within { worker ≤ length tallies.old.items }
+    ensures { tallies.new.items ≡ slice_set tallies.old.items (worker - 1) tally }
 {
-    seats[worker as usize - 1] = seat;
+    tallies[worker as usize - 1] = tally;
 }
 
 fn stops(before: bool, stop: Option<Point>) -> bool

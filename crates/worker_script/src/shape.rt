@@ -1,11 +1,11 @@
-ghost use Rattle.std.specs.Prelude.{◌≡◌};
+ghost use Rattle.std.specs.Prelude.{◌≡◌, length};
 ghost use Rattle.worker_script.specs.Text.{tokens, token};
-ghost use Rattle.worker_script.specs.Values.{is_number, is_u32, is_u64};
-ghost use Rattle.worker_script.specs.Calls.{begins_stop, has_stop, call_length, last_token, is_length, are_span_numbers, are_numbers, wrong_length, wrong_number, is_status, is_built_word, is_built_call};
+ghost use Rattle.worker_script.specs.Values.{is_u32, is_u64};
+ghost use Rattle.worker_script.specs.Calls.{begins_stop, has_stop, call_length, last_token, is_length, are_span_numbers, are_numbers, wrong_length, wrong_number, is_status};
 
-use crate::number::{number, number_u32, number_u64};
+use crate::number::{number_u32, number_u64};
 use crate::text::{count_tokens, token_at};
-use crate::word::{Word, word_of};
+use crate::word::Word;
 
 // Whether a token begins with `!`.
 fn begins_stop(token: &[u8]) -> bool
@@ -24,13 +24,20 @@ pub(crate) fn last_token(line: &[u8]) -> &[u8]
     token_at(count_tokens(line).saturating_sub(1), line)
 }
 
-/// Whether a call line has a stop.
+// Whether a line of so many tokens has a stop.
 #[tactic(auto, unfolding(crate::specs::Calls::has_stop))]
+fn ends_in_stop(count: usize, line: &[u8]) -> bool
+    requires { count ≡ length (tokens line.now) }
+    ensures { result ≡ has_stop (tokens line.now) }
+{
+    2 <= count && begins_stop(token_at(count - 1, line))
+}
+
+/// Whether a call line has a stop.
 pub(crate) fn has_stop(line: &[u8]) -> bool
     ensures { result ≡ has_stop (tokens line.now) }
 {
-    let count = count_tokens(line);
-    2 <= count && begins_stop(token_at(count - 1, line))
+    ends_in_stop(count_tokens(line), line)
 }
 
 /// How many tokens a call line has without its stop.
@@ -39,7 +46,7 @@ pub(crate) fn call_length(line: &[u8]) -> usize
     ensures { result ≡ call_length (tokens line.now) }
 {
     let count = count_tokens(line);
-    if 2 <= count && begins_stop(token_at(count - 1, line)) {
+    if ends_in_stop(count, line) {
         count - 1
     } else {
         count
@@ -118,31 +125,4 @@ pub(crate) fn is_status(word: Option<Word>) -> bool
         Some(Word::Status) => true,
         _ => false,
     }
-}
-
-fn is_built_word(word: Option<Word>, count: usize) -> bool
-    ensures { result ≡ is_built_word word count }
-{
-    match word {
-        Some(Word::Open) => count == 5,
-        Some(Word::Close) => true,
-        _ => false,
-    }
-}
-
-// Whether a call line is one of the first worker.
-fn is_first(line: &[u8]) -> bool
-    ensures { result ≡ is_number 1 1 (token 0 (tokens line.now)) }
-{
-    number(1, 1, token_at(0, line)).is_some()
-}
-
-/// Whether the form of a call line is built.
-#[tactic(auto, unfolding(crate::specs::Calls::is_built_call))]
-pub(crate) fn is_built_call(line: &[u8]) -> bool
-    ensures { result ≡ is_built_call (tokens line.now) }
-{
-    is_first(line)
-        && !has_stop(line)
-        && is_built_word(word_of(token_at(1, line)), count_tokens(line))
 }

@@ -10,7 +10,7 @@ const NO_MEMORY: u32 = 200;
 
 // The line and the reason that are told, or (0, 0) for a script.
 fn told(alloc: Global, text: &[u8]) -> (u32, u32) {
-    if text.len() > 4_194_304 {
+    if text.len() > LIMIT {
         return (0, NO_MEMORY);
     }
     match parse(alloc, text) {
@@ -25,7 +25,7 @@ fn told(alloc: Global, text: &[u8]) -> (u32, u32) {
 fn a_script_is_read(rt: HostRuntime) -> Result<(), Fail> {
     let text =
         b"# one worker\n\nworker 1 101 1000 7 hostA data\n  file  001 1 11 /srv/data a.txt  \nphase 5\n1 open 1 0x1F01ff rwd\n1 close 9\nphase 5\n01 open 1 0x00000020 d";
-    if text.len() > 4_194_304 {
+    if text.len() > LIMIT {
         return Ok(());
     }
     let script = parse(rt.alloc(), text)?;
@@ -268,12 +268,27 @@ fn long_lines(rt: HostRuntime) -> Result<(), Fail> {
         (b'\n', 0, 0),
         (0, 1, 1),
     ] {
-        let text = vec![in rt.alloc(); byte; 4_194_304]?;
+        let text = vec![in rt.alloc(); byte; LIMIT]?;
         assert_eq!(rt;
             told(rt.alloc(), text.as_slice()),
             (line, reason),
             "of {byte}"
         );
+    }
+    Ok(())
+}
+
+// The text of each error.
+#[test]
+fn errors_have_texts(rt: HostRuntime) -> Result<(), Fail> {
+    let alloc = rt.alloc();
+    for (error, text) in [
+        (Parse::Bad { line: 3, reason: 7 }, "line 3: reason 7"),
+        (Parse::NotBuilt { line: 10 }, "line 10: not built"),
+        (Parse::OutOfMemory, "out of memory"),
+    ] {
+        let said = format!(in alloc; "{error}")?;
+        assert_eq!(rt; said.as_str(), text);
     }
     Ok(())
 }

@@ -8,7 +8,7 @@ ghost use Rattle.worker_script.specs.Numbers.{worker_numbers};
 
 use crate::fault::Fault;
 use crate::number::{number_u32, number_u64, positive_u32};
-use crate::reader::{Reader, Seat};
+use crate::reader::{Reader, Tally};
 use crate::text::{count_tokens, is_short, text, token_at};
 use sid_core::WorkerInfo;
 
@@ -86,7 +86,7 @@ impl Reader {
             machine,
             share,
         })?;
-        self.seats.push(Seat {
+        self.tallies.push(Tally {
             made: 0,
             stopped: false,
         })?;

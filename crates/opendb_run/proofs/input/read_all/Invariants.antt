@@ -1,6 +1,6 @@
 use Rattle.std.proofs.Common.{◌≤◌, length}
 use Rattle.std.specs.Io.KnownBytes.{Consumes}
-use Rattle.opendb_run.specs.declared.input.TheConstants.{LIMIT}
+use Rattle.worker_script.specs.declared.parsing.TheConstants.{LIMIT}
 use Rattle.opendb_run.proofs.input.read_all.Given as goal
 
 abbrev pub invariant-loop-turn : goal.invariant-loop-turn

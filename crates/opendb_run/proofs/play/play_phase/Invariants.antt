@@ -1,5 +1,5 @@
 use Rattle.std.proofs.Common.{◌≡◌, ◌++◌, drop}
-use Rattle.serial_table.specs.History.{after_all}
+use Rattle.serial_table.specs.History.{standings, after_all}
 use Rattle.serial_table.specs.Text.{text_from}
 use Rattle.opendb_run.specs.Play.{entries_of}
 use Rattle.opendb_run.proofs.play.play_phase.Given as goal
@@ -10,5 +10,5 @@ invariant-loop-planned g l = record {
   table : after_all l.setup l.table (entries_of l.setup l.table l.phase.moment (drop l.planned-index l.planned-items)) ≡ after_all l.setup l.fn.table (entries_of l.setup l.fn.table l.phase.moment l.phase.calls);
   text : l.text ++ text_from l.setup l.table (entries_of l.setup l.table l.phase.moment (drop l.planned-index l.planned-items)) ≡ l.fn.text ++ text_from l.setup l.fn.table (entries_of l.setup l.fn.table l.phase.moment l.phase.calls);
   items : l.planned-items ≡ l.phase.calls;
-  workers : l.table.workers ≡ l.fn.table.workers;
+  nobody_died : standings l.table ≡ standings l.fn.table;
 }

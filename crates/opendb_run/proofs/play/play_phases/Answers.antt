@@ -7,5 +7,5 @@ loop-phase-preserved g c = record {
   text = phase_more c.args.script.now.setup c.loop-phase.table c.play_phase.new.table c.as_slice-phase-items.result.now c.loop-phase.phase-index c.phase-item.result c.loop-phase.text c.play_phase.new.text _
       c.loop-phase-test.true c.phase-item.is c.in_ok-play_phase.ensures.table c.in_ok-play_phase.ensures.text c.loop-phase.invariant.text;
   items = c.loop-phase.invariant.items;
-  workers = c.play_phase.ensures.workers ∙ c.loop-phase.invariant.workers;
+  nobody_died = c.play_phase.ensures.nobody_dies ∙ c.loop-phase.invariant.nobody_died;
 }

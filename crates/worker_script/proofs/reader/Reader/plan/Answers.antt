@@ -10,5 +10,5 @@ returns c =
       plan-reader c.args.self.now _ planned c.requires.reader c.requires.phase c.requires.room c.requires.some c.requires.declared
           refl refl refl refl c.in_ok-push_planned.ensures refl
           (rw (c.count_of.ensures, c.is_status_call.ensures) refl)
-          (c.set_seat.ensures ∙ rw (c.next_number-number.ensures, c.stops-stopped.ensures, c.has_stopped.ensures) refl),
+          (c.set_tally.ensures ∙ rw (c.next_number-number.ensures, c.stops-stopped.ensures, c.has_stopped.ensures) refl),
     )
