@@ -31,3 +31,10 @@ fn replies_have_the_published_values(rt: HostRuntime) {
         assert_eq!(rt; reply.status(), value, "of {reply:?}");
     }
 }
+
+#[test]
+fn want_of_memory_has_its_text(rt: HostRuntime) -> Result<(), Fail> {
+    let said = format!(in rt.alloc(); "{OutOfMemory}")?;
+    assert_eq!(rt; said.as_str(), "out of memory");
+    Ok(())
+}
