@@ -1,4 +1,5 @@
 pub mod Parts
+pub mod Split
 pub mod Values
 pub mod Counts
 pub mod Lists

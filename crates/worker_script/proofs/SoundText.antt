@@ -52,7 +52,7 @@ line-step : (draft after : Draft) (line : List ℕ) (plain : Bool) → list_all 
 line-step draft after line true all built d e = word-line draft after (tokens line) built (tokens-printable line all) d e
 line-step draft after line false all built d e = refused 1 after e
 
-line-sound : (draft after : Draft) (line : List ℕ) → is_built_line line ≡ true → IsDraft draft → read_line draft line ≡ Ok after → IsDraft after
+line-sound : (draft after : Draft) (line : List ℕ) → is_built_line (tokens line) ≡ true → IsDraft draft → read_line draft line ≡ Ok after → IsDraft after
 unfolding read_line is_built_line
 line-sound draft after line built d e = line-step draft after line (list_all is_plain line) refl built d e
 
@@ -72,7 +72,7 @@ same-script draft s d e = let same : script_of draft ≡ s = cc in subst IsScrip
 script-from : (number : ℕ) (draft : Draft) (ls : List (List ℕ)) (s : Script) → first_unbuilt number ls ≡ None → IsDraft draft → script_from number draft ls ≡ Ok s → IsScript s
 script-from number draft [] s built d e = same-script draft s d e
 script-from number draft (line ∷ ls) s built d e =
-    let each = none-unbuilt (is_built_line line) number (first_unbuilt (number + 1) ls) built in
+    let each = none-unbuilt (is_built_line (tokens line)) number (first_unbuilt (number + 1) ls) built in
     next-line number ls s (read_line draft line) (λ after is more. script-from (number + 1) after ls s each.1 (line-sound draft after line each.0 d is) more) e
 
 nothing-draft : IsDraft nothing

@@ -4,6 +4,7 @@ pub mod Text
 pub mod Values
 pub mod Words
 pub mod Options
+pub mod Line
 pub mod Lines
 pub mod Reading
 pub mod Search

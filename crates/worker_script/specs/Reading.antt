@@ -41,13 +41,12 @@ abbrev pub script : List ℕ → Result Script BadLine
 script bytes = script_from 1 nothing (lines bytes)
 
 -- a line of a script whose form is built
-unfoldable pub is_built_line : List ℕ → Bool
-is_built_line line =
-    is_skipped (token 0 (tokens line)) || not (list_all is_digit (token 0 (tokens line))) || is_built_call (tokens line)
+unfoldable pub is_built_line : List (List ℕ) → Bool
+is_built_line ts = is_skipped (token 0 ts) || not (list_all is_digit (token 0 ts)) || is_built_call ts
 
 abbrev pub first_unbuilt : ℕ → List (List ℕ) → Option ℕ
 first_unbuilt number [] = None
-first_unbuilt number (line ∷ others) = if is_built_line line then first_unbuilt (number + 1) others else Some number
+first_unbuilt number (line ∷ others) = if is_built_line (tokens line) then first_unbuilt (number + 1) others else Some number
 
 -- the script, if all its lines are built, or the first line that isn't
 abbrev pub built_script : Result Script BadLine → Option ℕ → Result Script Parse

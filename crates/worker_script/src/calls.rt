@@ -1,5 +1,5 @@
 ghost use Rattle.std.specs.Prelude.{◌≡◌, ◌<◌, ◌≤◌, Some, Ok, Err, OnOk, IfOk, IfErr, IsSome, true, false, length};
-ghost use Rattle.worker_script.specs.Text.{tokens, token};
+ghost use Rattle.worker_script.specs.Text.{token};
 ghost use Rattle.worker_script.specs.Values.{value, is_u32};
 ghost use Rattle.worker_script.specs.Lines.{is_declared, planned_in};
 ghost use Rattle.worker_script.specs.Calls.{are_numbers, wrong_number, names_no_worker, planned_stop, head_fault, open_fault, stop_fault, spelled, tail, call_in, call_of, call_line, spelled_call, is_built_call};
@@ -8,20 +8,20 @@ ghost use Rattle.worker_script.specs.Reader.{draft_of, IsReader, Finds, Reads};
 
 use crate::access::{access, share};
 use crate::fault::Fault;
+use crate::line::Line;
 use crate::number::number_u32;
 use crate::reader::Reader;
-use crate::shape::{call_length, has_stop, is_status, last_token, wrong_length, wrong_number};
+use crate::shape::{call_length, has_stop, is_status, wrong_length, wrong_number};
 use crate::spelled::{call_of, u32_at};
-use crate::text::token_at;
 use crate::word::{Word, stop_of, word_of};
 use sid_core::{Call, Point};
 
 #[tactic(auto, unfolding(crate::specs::Calls::has_stop))]
-fn planned_stop(line: &[u8]) -> Option<Point>
-    ensures { result ≡ planned_stop (tokens line.now) }
+fn planned_stop(line: &Line<'_>) -> Option<Point>
+    ensures { result ≡ planned_stop line.now }
 {
     if has_stop(line) {
-        stop_of(last_token(line))
+        stop_of(line.last())
     } else {
         None
     }
@@ -41,9 +41,9 @@ impl Reader {
     }
 
     // Whether a `reconnect` line names a worker that isn't declared.
-    fn names_no_worker(&self, word: Option<Word>, line: &[u8]) -> bool
-        requires { wrong_number word (tokens line.now) ≡ false }
-        ensures { result ≡ names_no_worker word (draft_of self.now) (tokens line.now) }
+    fn names_no_worker(&self, word: Option<Word>, line: &Line<'_>) -> bool
+        requires { wrong_number word line.now ≡ false }
+        ensures { result ≡ names_no_worker word (draft_of self.now) line.now }
     {
         match word {
             Some(Word::Reconnect) => !self.has_worker(u32_at(2, line)),
@@ -53,19 +53,19 @@ impl Reader {
 
     // What makes a call line bad whether its word is known or not, or its worker.
     #[tactic(auto, unfolding(crate::specs::Calls::head_fault))]
-    fn head_fault(&self, word: Option<Word>, count: usize, line: &[u8]) -> Result<u32, u32>
+    fn head_fault(&self, word: Option<Word>, count: usize, line: &Line<'_>) -> Result<u32, u32>
         requires { IsReader self.now }
-        ensures fault { Finds (head_fault (draft_of self.now) word count (tokens line.now)) (value (token 0 (tokens line.now))) result }
+        ensures fault { Finds (head_fault (draft_of self.now) word count line.now) (value (token 0 line.now)) result }
         ensures room { OnOk result (self.now.calls < 20000) }
         ensures phase { OnOk result (IsSome self.now.current) }
         ensures some { IfOk result (λ worker. 1 ≤ worker) }
         ensures declared { IfOk result (λ worker. worker ≤ length self.now.workers) }
-        ensures numbers { OnOk result (wrong_number word (tokens line.now) ≡ false) }
+        ensures numbers { OnOk result (wrong_number word line.now ≡ false) }
     {
         if wrong_length(word, count) {
             return Err(3);
         }
-        let Some(worker) = number_u32(token_at(0, line)) else {
+        let Some(worker) = number_u32(line.token(0)) else {
             return Err(4);
         };
         if wrong_number(word, line) {
@@ -88,9 +88,9 @@ impl Reader {
 
     // What makes an open line bad.
     #[tactic(auto, unfolding(crate::specs::Calls::open_fault))]
-    fn open_fault(&self, word: Word, line: &[u8]) -> Result<(), u32>
-        requires { are_numbers word (tokens line.now) ≡ true }
-        ensures { Finds (open_fault (draft_of self.now) word (tokens line.now)) tt result }
+    fn open_fault(&self, word: Word, line: &Line<'_>) -> Result<(), u32>
+        requires { are_numbers word line.now ≡ true }
+        ensures { Finds (open_fault (draft_of self.now) word line.now) tt result }
     {
         match word {
             Word::Open => self.open_line_fault(line),
@@ -99,17 +99,17 @@ impl Reader {
     }
 
     #[tactic(auto, unfolding(crate::specs::Calls::open_fault))]
-    fn open_line_fault(&self, line: &[u8]) -> Result<(), u32>
-        requires { is_u32 (token 2 (tokens line.now)) ≡ true }
-        ensures { Finds (open_fault (draft_of self.now) Word.Open (tokens line.now)) tt result }
+    fn open_line_fault(&self, line: &Line<'_>) -> Result<(), u32>
+        requires { is_u32 (token 2 line.now) ≡ true }
+        ensures { Finds (open_fault (draft_of self.now) Word.Open line.now) tt result }
     {
         if !self.has_file(u32_at(2, line)) {
             return Err(19);
         }
-        if access(token_at(3, line)).is_none() {
+        if access(line.token(3)).is_none() {
             return Err(20);
         }
-        if share(token_at(4, line)).is_none() {
+        if share(line.token(4)).is_none() {
             return Err(21);
         }
         Ok(())
@@ -117,31 +117,31 @@ impl Reader {
 
     // What makes a call line bad where its worker had its stop, or by its own stop.
     #[tactic(auto, unfolding(crate::specs::Calls::stop_fault))]
-    fn stop_fault(&self, worker: u32, line: &[u8]) -> Result<(), u32>
+    fn stop_fault(&self, worker: u32, line: &Line<'_>) -> Result<(), u32>
         requires reader { IsReader self.now }
-        requires worker { worker ≡ value (token 0 (tokens line.now)) }
+        requires worker { worker ≡ value (token 0 line.now) }
         requires some { 1 ≤ worker }
         requires declared { worker ≤ length self.now.workers }
-        ensures { Finds (stop_fault (draft_of self.now) (tokens line.now)) tt result }
+        ensures { Finds (stop_fault (draft_of self.now) line.now) tt result }
     {
         if self.has_stopped(worker) {
             return Err(23);
         }
-        if has_stop(line) && stop_of(last_token(line)).is_none() {
+        if has_stop(line) && stop_of(line.last()).is_none() {
             return Err(24);
         }
         Ok(())
     }
 
     // The call that is spelled, or what makes the line bad from reason 22 on.
-    fn spelled(&self, word: Word, worker: u32, count: usize, line: &[u8]) -> Result<Call, u32>
+    fn spelled(&self, word: Word, worker: u32, count: usize, line: &Line<'_>) -> Result<Call, u32>
         requires reader { IsReader self.now }
-        requires numbers { are_numbers word (tokens line.now) ≡ true }
-        requires worker { worker ≡ value (token 0 (tokens line.now)) }
+        requires numbers { are_numbers word line.now ≡ true }
+        requires worker { worker ≡ value (token 0 line.now) }
         requires some { 1 ≤ worker }
         requires declared { worker ≤ length self.now.workers }
-        ensures judged { result ≡ spelled (draft_of self.now) (tokens line.now) (call_of word count (tokens line.now)) }
-        ensures call { IfOk result (λ call. call_of word count (tokens line.now) ≡ Some call) }
+        ensures judged { result ≡ spelled (draft_of self.now) line.now (call_of word count line.now) }
+        ensures call { IfOk result (λ call. call_of word count line.now ≡ Some call) }
     {
         let Some(call) = call_of(word, count, line) else {
             return Err(22);
@@ -151,14 +151,14 @@ impl Reader {
     }
 
     // The call of a line with this word, or what makes the line bad from reason 19 on.
-    fn tail(&self, word: Word, worker: u32, count: usize, line: &[u8]) -> Result<Call, u32>
+    fn tail(&self, word: Word, worker: u32, count: usize, line: &Line<'_>) -> Result<Call, u32>
         requires reader { IsReader self.now }
-        requires numbers { are_numbers word (tokens line.now) ≡ true }
-        requires worker { worker ≡ value (token 0 (tokens line.now)) }
+        requires numbers { are_numbers word line.now ≡ true }
+        requires worker { worker ≡ value (token 0 line.now) }
         requires some { 1 ≤ worker }
         requires declared { worker ≤ length self.now.workers }
-        ensures judged { result ≡ tail (draft_of self.now) count (tokens line.now) word }
-        ensures call { IfOk result (λ call. call_of word count (tokens line.now) ≡ Some call) }
+        ensures judged { result ≡ tail (draft_of self.now) count line.now word }
+        ensures call { IfOk result (λ call. call_of word count line.now ≡ Some call) }
     {
         self.open_fault(word, line)?;
         self.spelled(word, worker, count, line)
@@ -166,19 +166,19 @@ impl Reader {
 
     // The worker and the call of a call line, or what makes it bad.
     #[tactic(auto, unfolding(crate::specs::Calls::call_in))]
-    fn call_in(&self, line: &[u8]) -> Result<(u32, Call), u32>
+    fn call_in(&self, line: &Line<'_>) -> Result<(u32, Call), u32>
         requires { IsReader self.now }
-        ensures call { IfOk result (λ found. call_in (draft_of self.now) (tokens line.now) ≡ Ok found.1) }
-        ensures fault { IfErr result (λ reason. call_in (draft_of self.now) (tokens line.now) ≡ Err reason) }
-        ensures worker { IfOk result (λ found. found.0 ≡ value (token 0 (tokens line.now))) }
-        ensures spelled { IfOk result (λ found. spelled_call (tokens line.now) ≡ Some found.1) }
+        ensures call { IfOk result (λ found. call_in (draft_of self.now) line.now ≡ Ok found.1) }
+        ensures fault { IfErr result (λ reason. call_in (draft_of self.now) line.now ≡ Err reason) }
+        ensures worker { IfOk result (λ found. found.0 ≡ value (token 0 line.now)) }
+        ensures spelled { IfOk result (λ found. spelled_call line.now ≡ Some found.1) }
         ensures room { OnOk result (self.now.calls < 20000) }
         ensures phase { OnOk result (IsSome self.now.current) }
         ensures some { IfOk result (λ found. 1 ≤ found.0) }
         ensures declared { IfOk result (λ found. found.0 ≤ length self.now.workers) }
     {
         let count = call_length(line);
-        let word = word_of(token_at(1, line));
+        let word = word_of(line.token(1));
         let worker = self.head_fault(word, count, line)?;
         let Some(word) = word else {
             return Err(18);
@@ -189,10 +189,10 @@ impl Reader {
 
     /// Takes a call line, and tells whether its form is built.
     #[tactic(auto, unfolding(crate::specs::Calls::call_line, crate::specs::Calls::is_built_call))]
-    pub fn call_line(&mut self, line: &[u8]) -> Result<bool, Fault>
+    pub fn call_line(&mut self, line: &Line<'_>) -> Result<bool, Fault>
         requires { IsReader self.old }
-        ensures reads { Reads (call_line (draft_of self.old) (tokens line.now)) self.new result }
-        ensures built { IfOk result (λ built. built ≡ is_built_call (tokens line.now)) }
+        ensures reads { Reads (call_line (draft_of self.old) line.now) self.new result }
+        ensures built { IfOk result (λ built. built ≡ is_built_call line.now) }
     {
         let (worker, call) = self.call_in(line)?;
         self.plan(worker, call, planned_stop(line))?;

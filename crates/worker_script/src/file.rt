@@ -1,14 +1,14 @@
 ghost use Rattle.std.specs.Prelude.{◌≡◌, ◌<◌, ◌==◌, cond, Some, None, IfOk, length};
 ghost use Rattle.std.specs.List.{list_any};
-ghost use Rattle.worker_script.specs.Text.{tokens};
 ghost use Rattle.worker_script.specs.Lines.{are_file_numbers, is_place, file_fault, file_line};
 ghost use Rattle.worker_script.specs.Reader.{draft_of, place_cmp, IsReader, Finds, Reads};
 ghost use Rattle.worker_script.specs.Numbers.{file_numbers};
 
 use crate::fault::Fault;
+use crate::line::Line;
 use crate::number::{number_u32, number_u64};
 use crate::reader::Reader;
-use crate::text::{count_tokens, is_short, text, token_at};
+use crate::text::{is_short, text};
 use sid_core::FileInfo;
 
 /// The numbers of a line `file F DEV INODE PATH NAME`.
@@ -19,13 +19,13 @@ pub(crate) struct FileNumbers {
     pub inode: u64,
 }
 
-fn file_numbers(line: &[u8]) -> Option<FileNumbers>
-    ensures { result ≡ cond (are_file_numbers (tokens line.now)) (Some (file_numbers (tokens line.now))) None }
+fn file_numbers(line: &Line<'_>) -> Option<FileNumbers>
+    ensures { result ≡ cond (are_file_numbers line.now) (Some (file_numbers line.now)) None }
 {
     Some(FileNumbers {
-        file: number_u32(token_at(1, line))?,
-        dev: number_u64(token_at(2, line))?,
-        inode: number_u64(token_at(3, line))?,
+        file: number_u32(line.token(1))?,
+        dev: number_u64(line.token(2))?,
+        inode: number_u64(line.token(3))?,
     })
 }
 
@@ -39,12 +39,12 @@ impl Reader {
 
     // What makes a file line bad, or its numbers.
     #[tactic(auto, unfolding(crate::specs::Lines::file_fault))]
-    fn file_fault(&self, line: &[u8]) -> Result<FileNumbers, u32>
+    fn file_fault(&self, line: &Line<'_>) -> Result<FileNumbers, u32>
         requires { IsReader self.now }
-        ensures fault { Finds (file_fault (draft_of self.now) (tokens line.now)) (file_numbers (tokens line.now)) result }
+        ensures fault { Finds (file_fault (draft_of self.now) line.now) (file_numbers line.now) result }
         ensures room { IfOk result (λ _. length self.now.files < 10000) }
     {
-        if count_tokens(line) != 6 {
+        if line.len() != 6 {
             return Err(3);
         }
         let Some(numbers) = file_numbers(line) else {
@@ -62,20 +62,20 @@ impl Reader {
         if self.has_place(numbers.dev, numbers.inode) {
             return Err(13);
         }
-        if !(is_short(token_at(4, line)) && is_short(token_at(5, line))) {
+        if !(is_short(line.token(4)) && is_short(line.token(5))) {
             return Err(14);
         }
         Ok(numbers)
     }
 
     #[tactic(auto, unfolding(crate::specs::Lines::file_line))]
-    pub fn file_line(&mut self, line: &[u8]) -> Result<(), Fault>
+    pub fn file_line(&mut self, line: &Line<'_>) -> Result<(), Fault>
         requires { IsReader self.old }
-        ensures { Reads (file_line (draft_of self.old) (tokens line.now)) self.new result }
+        ensures { Reads (file_line (draft_of self.old) line.now) self.new result }
     {
         let numbers = self.file_fault(line)?;
-        let path = text(self.alloc, token_at(4, line))?;
-        let name = text(self.alloc, token_at(5, line))?;
+        let path = text(self.alloc, line.token(4))?;
+        let name = text(self.alloc, line.token(5))?;
         self.places.insert((numbers.dev, numbers.inode))?;
         self.files.push(FileInfo {
             dev: numbers.dev,

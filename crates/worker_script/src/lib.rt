@@ -7,6 +7,7 @@ mod calls;
 mod error;
 mod fault;
 mod file;
+mod line;
 mod number;
 mod options;
 mod parsing;

@@ -1,10 +1,11 @@
-ghost use Rattle.std.specs.Prelude.{◌≡◌, take, drop, nat_lt, Some};
-ghost use Rattle.worker_script.specs.Text.{tokens, token};
+ghost use Rattle.std.specs.Prelude.{◌≡◌, ◌<◌, take, drop, nat_lt, Some};
+ghost use Rattle.worker_script.specs.Text.{token};
 ghost use Rattle.worker_script.specs.Options.{with_durable, with_lease, with_option, add_option, asked_in, with_flag, add_flag, flags_in, tables_of};
 
 use crate::asked::{Asked, Flags};
+use crate::line::Line;
 use crate::number::{number_u64, positive_u32};
-use crate::text::{find, token_at};
+use crate::text::find;
 use crate::word::state_of;
 use sid_core::{LeaseAsk, Tables};
 
@@ -72,11 +73,12 @@ fn with_option(asked: Asked, token: &[u8]) -> Option<Asked>
     }
 }
 
-fn option_at(index: usize, count: usize, line: &[u8], asked: Asked) -> Option<Asked>
-    ensures { result ≡ add_option (nat_lt index count) (token index (tokens line.now)) (Some asked) }
+fn option_at(index: usize, count: usize, line: &Line<'_>, asked: Asked) -> Option<Asked>
+    requires { index < 9 }
+    ensures { result ≡ add_option (nat_lt index count) (token index line.now) (Some asked) }
 {
     if index < count {
-        with_option(asked, token_at(index, line))
+        with_option(asked, line.token(index))
     } else {
         Some(asked)
     }
@@ -84,8 +86,8 @@ fn option_at(index: usize, count: usize, line: &[u8], asked: Asked) -> Option<As
 
 /// The options of an open line with so many tokens.
 #[tactic(auto, unfolding(crate::specs::Options::asked_in))]
-pub(crate) fn asked_in(count: usize, line: &[u8]) -> Option<Asked>
-    ensures { result ≡ asked_in count (tokens line.now) }
+pub(crate) fn asked_in(count: usize, line: &Line<'_>) -> Option<Asked>
+    ensures { result ≡ asked_in count line.now }
 {
     let none = Asked {
         lease: None,
@@ -121,11 +123,12 @@ fn with_flag(flags: Flags, token: &[u8]) -> Option<Flags>
     }
 }
 
-fn flag_at(index: usize, count: usize, line: &[u8], flags: Flags) -> Option<Flags>
-    ensures { result ≡ add_flag (nat_lt index count) (token index (tokens line.now)) (Some flags) }
+fn flag_at(index: usize, count: usize, line: &Line<'_>, flags: Flags) -> Option<Flags>
+    requires { index < 9 }
+    ensures { result ≡ add_flag (nat_lt index count) (token index line.now) (Some flags) }
 {
     if index < count {
-        with_flag(flags, token_at(index, line))
+        with_flag(flags, line.token(index))
     } else {
         Some(flags)
     }
@@ -133,8 +136,8 @@ fn flag_at(index: usize, count: usize, line: &[u8], flags: Flags) -> Option<Flag
 
 /// The flags of a status line with so many tokens.
 #[tactic(auto, unfolding(crate::specs::Options::flags_in))]
-pub(crate) fn flags_in(count: usize, line: &[u8]) -> Option<Flags>
-    ensures { result ≡ flags_in count (tokens line.now) }
+pub(crate) fn flags_in(count: usize, line: &Line<'_>) -> Option<Flags>
+    ensures { result ≡ flags_in count line.now }
 {
     let none = Flags {
         shares: false,

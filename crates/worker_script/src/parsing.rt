@@ -1,5 +1,5 @@
-ghost use Rattle.std.specs.Prelude.{◌≡◌, ◌≤◌, IfOk, Some, None, length, if◌then◌else◌};
-ghost use Rattle.worker_script.specs.Text.{tokens};
+ghost use Rattle.std.specs.Prelude.{◌≡◌, ◌≤◌, IfOk, Some, None, false, length, if◌then◌else◌};
+ghost use Rattle.worker_script.specs.Text.{tokens, token, is_skipped};
 ghost use Rattle.worker_script.specs.Lines.{script_of};
 ghost use Rattle.worker_script.specs.Script.{IsScript};
 ghost use Rattle.worker_script.specs.Reader.{draft_of, IsReader, Reads};
@@ -9,28 +9,28 @@ ghost use Rattle.worker_script.specs.declared.parsing.TheConstants.{LIMIT};
 
 use crate::error::Parse;
 use crate::fault::Fault;
+use crate::line::Line;
 use crate::number::are_digits;
 use crate::phase::push_phase;
 use crate::reader::Reader;
 use crate::script::Script;
-use crate::text::{first_part, is_plain_line, is_skipped, token_at};
+use crate::text::{first_part, first_token, is_plain_line, is_skipped};
 use sid_core::{OutOfMemory, Setup};
 use std::alloc::Global;
 
 /// How many bytes a text may have.
 pub const LIMIT: usize = 4_194_304;
 
-// Takes a line, and tells whether its form is built.
+// Takes a line that isn't skipped, and tells whether its form is built.
 #[tactic(auto, using(crate::proofs::Facts::worker_no_digits, crate::proofs::Facts::file_no_digits, crate::proofs::Facts::phase_no_digits), unfolding(crate::specs::Reading::word_line, crate::specs::Reading::is_built_line))]
-fn word_line(reader: &mut Reader, line: &[u8]) -> Result<bool, Fault>
-    requires { IsReader reader.old }
-    ensures reads { Reads (word_line (draft_of reader.old) (tokens line.now)) reader.new result }
+fn word_line(reader: &mut Reader, line: &Line<'_>) -> Result<bool, Fault>
+    requires reader { IsReader reader.old }
+    requires word { is_skipped (token 0 line.now) ≡ false }
+    ensures reads { Reads (word_line (draft_of reader.old) line.now) reader.new result }
     ensures built { IfOk result (λ built. built ≡ is_built_line line.now) }
 {
-    let word = token_at(0, line);
-    if is_skipped(word) {
-        Ok(true)
-    } else if word == b"worker".as_slice() {
+    let word = line.token(0);
+    if word == b"worker".as_slice() {
         reader.worker_line(line)?;
         Ok(true)
     } else if word == b"file".as_slice() {
@@ -46,16 +46,20 @@ fn word_line(reader: &mut Reader, line: &[u8]) -> Result<bool, Fault>
     }
 }
 
-#[tactic(auto, unfolding(crate::specs::Reading::read_line))]
+// Takes a line, and tells whether its form is built. One that is skipped isn't split.
+#[tactic(auto, unfolding(crate::specs::Reading::read_line, crate::specs::Reading::word_line, crate::specs::Reading::is_built_line))]
 fn read_line(reader: &mut Reader, line: &[u8]) -> Result<bool, Fault>
     requires { IsReader reader.old }
     ensures reads { Reads (read_line (draft_of reader.old) line.now) reader.new result }
-    ensures built { IfOk result (λ built. built ≡ is_built_line line.now) }
+    ensures built { IfOk result (λ built. built ≡ is_built_line (tokens line.now)) }
 {
     if !is_plain_line(line) {
         return Err(Fault::Bad(1));
     }
-    word_line(reader, line)
+    if is_skipped(first_token(line)) {
+        return Ok(true);
+    }
+    word_line(reader, &Line::new(line))
 }
 
 // The script that the lines make.

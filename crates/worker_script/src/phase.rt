@@ -1,15 +1,15 @@
 ghost use Rattle.std.specs.Prelude.{◌≡◌, ◌<◌, ◌++◌, IfOk, OnOk, length};
 ghost use Rattle.std.specs.Option.{option_to_list};
-ghost use Rattle.worker_script.specs.Text.{tokens, token};
+ghost use Rattle.worker_script.specs.Text.{token};
 ghost use Rattle.worker_script.specs.Values.{value};
 ghost use Rattle.worker_script.specs.Lines.{moment_of, new_phase, phase_fault, phase_line};
 ghost use Rattle.worker_script.specs.Reader.{draft_of, IsReader, Finds, Reads};
 
 use crate::fault::Fault;
+use crate::line::Line;
 use crate::number::number;
 use crate::reader::Reader;
 use crate::script::Phase;
-use crate::text::{count_tokens, token_at};
 use sid_core::{Items, Moment, OutOfMemory};
 use std::alloc::Global;
 use std::mem;
@@ -46,15 +46,15 @@ pub(crate) fn push_phase(phases: &mut Items<Phase>, phase: Option<Phase>) -> Res
 impl Reader {
     // What makes a phase line bad, or its moment.
     #[tactic(auto, unfolding(crate::specs::Lines::phase_fault))]
-    fn phase_fault(&self, line: &[u8]) -> Result<u64, u32>
+    fn phase_fault(&self, line: &Line<'_>) -> Result<u64, u32>
         requires { IsReader self.now }
-        ensures fault { Finds (phase_fault (draft_of self.now) (tokens line.now)) (value (token 1 (tokens line.now))) result }
+        ensures fault { Finds (phase_fault (draft_of self.now) line.now) (value (token 1 line.now)) result }
         ensures room { IfOk result (λ _. length self.now.phases < 10000) }
     {
-        if count_tokens(line) != 2 {
+        if line.len() != 2 {
             return Err(3);
         }
-        let Some(moment) = number(0, 9_999_999_999, token_at(1, line)) else {
+        let Some(moment) = number(0, 9_999_999_999, line.token(1)) else {
             return Err(4);
         };
         if 10_000 <= self.phases.len() + usize::from(self.current.is_some()) {
@@ -67,9 +67,9 @@ impl Reader {
     }
 
     #[tactic(auto, unfolding(crate::specs::Lines::phase_line))]
-    pub fn phase_line(&mut self, line: &[u8]) -> Result<(), Fault>
+    pub fn phase_line(&mut self, line: &Line<'_>) -> Result<(), Fault>
         requires { IsReader self.old }
-        ensures { Reads (phase_line (draft_of self.old) (tokens line.now)) self.new result }
+        ensures { Reads (phase_line (draft_of self.old) line.now) self.new result }
     {
         let moment = self.phase_fault(line)?;
         let next = new_phase(self.alloc, moment);

@@ -1,10 +1,10 @@
-ghost use Rattle.std.specs.Prelude.{◌≡◌, length};
-ghost use Rattle.worker_script.specs.Text.{tokens, token};
+ghost use Rattle.std.specs.Prelude.{◌≡◌, ◌<◌, length};
+ghost use Rattle.worker_script.specs.Text.{token};
 ghost use Rattle.worker_script.specs.Values.{is_u32, is_u64};
-ghost use Rattle.worker_script.specs.Calls.{begins_stop, has_stop, call_length, last_token, is_length, are_span_numbers, are_numbers, wrong_length, wrong_number, is_status};
+ghost use Rattle.worker_script.specs.Calls.{begins_stop, has_stop, call_length, is_length, are_span_numbers, are_numbers, wrong_length, wrong_number, is_status};
 
+use crate::line::Line;
 use crate::number::{number_u32, number_u64};
-use crate::text::{count_tokens, token_at};
 use crate::word::Word;
 
 // Whether a token begins with `!`.
@@ -17,40 +17,21 @@ fn begins_stop(token: &[u8]) -> bool
     }
 }
 
-/// The last token of a line.
-pub(crate) fn last_token(line: &[u8]) -> &[u8]
-    ensures { result.now ≡ last_token (tokens line.now) }
-{
-    token_at(count_tokens(line).saturating_sub(1), line)
-}
-
-// Whether a line of so many tokens has a stop.
-#[tactic(auto, unfolding(crate::specs::Calls::has_stop))]
-fn ends_in_stop(count: usize, line: &[u8]) -> bool
-    requires { count ≡ length (tokens line.now) }
-    ensures { result ≡ has_stop (tokens line.now) }
-{
-    2 <= count && begins_stop(token_at(count - 1, line))
-}
-
 /// Whether a call line has a stop.
-pub(crate) fn has_stop(line: &[u8]) -> bool
-    ensures { result ≡ has_stop (tokens line.now) }
+#[tactic(auto, unfolding(crate::specs::Calls::has_stop))]
+pub(crate) fn has_stop(line: &Line<'_>) -> bool
+    ensures { result ≡ has_stop line.now }
 {
-    ends_in_stop(count_tokens(line), line)
+    2 <= line.len() && begins_stop(line.last())
 }
 
 /// How many tokens a call line has without its stop.
 #[tactic(auto, unfolding(crate::specs::Calls::call_length, crate::specs::Calls::has_stop))]
-pub(crate) fn call_length(line: &[u8]) -> usize
-    ensures { result ≡ call_length (tokens line.now) }
+pub(crate) fn call_length(line: &Line<'_>) -> usize
+    ensures { result ≡ call_length line.now }
 {
-    let count = count_tokens(line);
-    if ends_in_stop(count, line) {
-        count - 1
-    } else {
-        count
-    }
+    let count = line.len();
+    if has_stop(line) { count - 1 } else { count }
 }
 
 /// Whether a line with this word has so many tokens.
@@ -68,26 +49,28 @@ fn is_length(word: Word, count: usize) -> bool
     }
 }
 
-fn is_u32(index: usize, line: &[u8]) -> bool
-    ensures { result ≡ is_u32 (token index (tokens line.now)) }
+fn is_u32(index: usize, line: &Line<'_>) -> bool
+    requires { index < 9 }
+    ensures { result ≡ is_u32 (token index line.now) }
 {
-    number_u32(token_at(index, line)).is_some()
+    number_u32(line.token(index)).is_some()
 }
 
-fn is_u64(index: usize, line: &[u8]) -> bool
-    ensures { result ≡ is_u64 (token index (tokens line.now)) }
+fn is_u64(index: usize, line: &Line<'_>) -> bool
+    requires { index < 9 }
+    ensures { result ≡ is_u64 (token index line.now) }
 {
-    number_u64(token_at(index, line)).is_some()
+    number_u64(line.token(index)).is_some()
 }
 
-fn are_span_numbers(line: &[u8]) -> bool
-    ensures { result ≡ are_span_numbers (tokens line.now) }
+fn are_span_numbers(line: &Line<'_>) -> bool
+    ensures { result ≡ are_span_numbers line.now }
 {
     is_u32(2, line) && is_u64(3, line) && is_u64(4, line)
 }
 
-fn are_numbers(word: Word, line: &[u8]) -> bool
-    ensures { result ≡ are_numbers word (tokens line.now) }
+fn are_numbers(word: Word, line: &Line<'_>) -> bool
+    ensures { result ≡ are_numbers word line.now }
 {
     match word {
         Word::Open | Word::Close => is_u32(2, line),
@@ -109,8 +92,8 @@ pub(crate) fn wrong_length(word: Option<Word>, count: usize) -> bool
 }
 
 /// Whether the word is known, and a number token behind it is wrong.
-pub(crate) fn wrong_number(word: Option<Word>, line: &[u8]) -> bool
-    ensures { result ≡ wrong_number word (tokens line.now) }
+pub(crate) fn wrong_number(word: Option<Word>, line: &Line<'_>) -> bool
+    ensures { result ≡ wrong_number word line.now }
 {
     match word {
         None => false,

@@ -1,34 +1,36 @@
-ghost use Rattle.std.specs.Prelude.{◌≡◌, true};
-ghost use Rattle.worker_script.specs.Text.{tokens, token};
+ghost use Rattle.std.specs.Prelude.{◌≡◌, ◌<◌, true};
+ghost use Rattle.worker_script.specs.Text.{token};
 ghost use Rattle.worker_script.specs.Values.{value, is_u32, is_u64};
 ghost use Rattle.worker_script.specs.Calls.{are_numbers, are_span_numbers, span_of, call_of};
 
 use crate::access::{access, share};
+use crate::line::Line;
 use crate::number::{number_u32, number_u64};
 use crate::options::{asked_in, flags_in, tables_of};
-use crate::text::token_at;
 use crate::word::{Word, glock_mode, lock_mode, state_of, wait_of};
 use sid_core::{Access, Call, Share, Span};
 
 /// The number at this place, which is one.
-pub(crate) fn u32_at(index: usize, line: &[u8]) -> u32
-    requires { is_u32 (token index (tokens line.now)) ≡ true }
-    ensures { result ≡ value (token index (tokens line.now)) }
+pub(crate) fn u32_at(index: usize, line: &Line<'_>) -> u32
+    requires index { index < 9 }
+    requires number { is_u32 (token index line.now) ≡ true }
+    ensures { result ≡ value (token index line.now) }
 {
-    number_u32(token_at(index, line)).unwrap()
+    number_u32(line.token(index)).unwrap()
 }
 
-fn u64_at(index: usize, line: &[u8]) -> u64
-    requires { is_u64 (token index (tokens line.now)) ≡ true }
-    ensures { result ≡ value (token index (tokens line.now)) }
+fn u64_at(index: usize, line: &Line<'_>) -> u64
+    requires index { index < 9 }
+    requires number { is_u64 (token index line.now) ≡ true }
+    ensures { result ≡ value (token index line.now) }
 {
-    number_u64(token_at(index, line)).unwrap()
+    number_u64(line.token(index)).unwrap()
 }
 
 // The handle and the bytes of a lock, unlock, read or write line.
-fn span_of(line: &[u8]) -> Span
-    requires { are_span_numbers (tokens line.now) ≡ true }
-    ensures { result ≡ span_of (tokens line.now) }
+fn span_of(line: &Line<'_>) -> Span
+    requires { are_span_numbers line.now ≡ true }
+    ensures { result ≡ span_of line.now }
 {
     Span {
         start: u64_at(3, line),
@@ -36,23 +38,23 @@ fn span_of(line: &[u8]) -> Span
     }
 }
 
-fn handle_of(line: &[u8]) -> u32
-    requires { are_span_numbers (tokens line.now) ≡ true }
-    ensures { result ≡ value (token 2 (tokens line.now)) }
+fn handle_of(line: &Line<'_>) -> u32
+    requires { are_span_numbers line.now ≡ true }
+    ensures { result ≡ value (token 2 line.now) }
 {
     u32_at(2, line)
 }
 
 #[tactic(auto, unfolding(crate::specs::Calls::call_of))]
-fn open_call(count: usize, line: &[u8]) -> Option<Call>
-    requires { are_numbers Word.Open (tokens line.now) ≡ true }
-    ensures { result ≡ call_of Word.Open count (tokens line.now) }
+fn open_call(count: usize, line: &Line<'_>) -> Option<Call>
+    requires { are_numbers Word.Open line.now ≡ true }
+    ensures { result ≡ call_of Word.Open count line.now }
 {
     let asked = asked_in(count, line)?;
     Some(Call::OpenFile {
         file: u32_at(2, line),
-        access: Access(access(token_at(3, line)).unwrap_or(0)),
-        share: Share(share(token_at(4, line)).unwrap_or(0)),
+        access: Access(access(line.token(3)).unwrap_or(0)),
+        share: Share(share(line.token(4)).unwrap_or(0)),
         lease: asked.lease,
         durable: asked.durable,
         overwrite: asked.overwrite,
@@ -60,12 +62,12 @@ fn open_call(count: usize, line: &[u8]) -> Option<Call>
 }
 
 #[tactic(auto, unfolding(crate::specs::Calls::call_of))]
-fn lock_call(count: usize, line: &[u8]) -> Option<Call>
-    requires { are_numbers Word.Lock (tokens line.now) ≡ true }
-    ensures { result ≡ call_of Word.Lock count (tokens line.now) }
+fn lock_call(count: usize, line: &Line<'_>) -> Option<Call>
+    requires { are_numbers Word.Lock line.now ≡ true }
+    ensures { result ≡ call_of Word.Lock count line.now }
 {
-    let mode = lock_mode(token_at(5, line))?;
-    let wait = wait_of(token_at(6, line))?;
+    let mode = lock_mode(line.token(5))?;
+    let wait = wait_of(line.token(6))?;
     Some(Call::Lock {
         handle: handle_of(line),
         span: span_of(line),
@@ -75,12 +77,12 @@ fn lock_call(count: usize, line: &[u8]) -> Option<Call>
 }
 
 #[tactic(auto, unfolding(crate::specs::Calls::call_of))]
-fn glock_call(count: usize, line: &[u8]) -> Option<Call>
-    requires { are_numbers Word.GLock (tokens line.now) ≡ true }
-    ensures { result ≡ call_of Word.GLock count (tokens line.now) }
+fn glock_call(count: usize, line: &Line<'_>) -> Option<Call>
+    requires { are_numbers Word.GLock line.now ≡ true }
+    ensures { result ≡ call_of Word.GLock count line.now }
 {
-    let mode = glock_mode(token_at(3, line))?;
-    let wait = wait_of(token_at(4, line))?;
+    let mode = glock_mode(line.token(3))?;
+    let wait = wait_of(line.token(4))?;
     Some(Call::GLock {
         key: u64_at(2, line),
         mode,
@@ -89,11 +91,11 @@ fn glock_call(count: usize, line: &[u8]) -> Option<Call>
 }
 
 #[tactic(auto, unfolding(crate::specs::Calls::call_of))]
-fn ack_call(count: usize, line: &[u8]) -> Option<Call>
-    requires { are_numbers Word.Ack (tokens line.now) ≡ true }
-    ensures { result ≡ call_of Word.Ack count (tokens line.now) }
+fn ack_call(count: usize, line: &Line<'_>) -> Option<Call>
+    requires { are_numbers Word.Ack line.now ≡ true }
+    ensures { result ≡ call_of Word.Ack count line.now }
 {
-    let state = state_of(token_at(3, line))?;
+    let state = state_of(line.token(3))?;
     Some(Call::Ack {
         key: u64_at(2, line),
         state,
@@ -101,8 +103,8 @@ fn ack_call(count: usize, line: &[u8]) -> Option<Call>
 }
 
 #[tactic(auto, unfolding(crate::specs::Calls::call_of))]
-fn status_call(count: usize, line: &[u8]) -> Option<Call>
-    ensures { result ≡ call_of Word.Status count (tokens line.now) }
+fn status_call(count: usize, line: &Line<'_>) -> Option<Call>
+    ensures { result ≡ call_of Word.Status count line.now }
 {
     let flags = flags_in(count, line)?;
     Some(Call::Status {
@@ -111,9 +113,9 @@ fn status_call(count: usize, line: &[u8]) -> Option<Call>
 }
 
 #[tactic(auto, unfolding(crate::specs::Calls::call_of))]
-fn reconnect_call(count: usize, line: &[u8]) -> Option<Call>
-    requires { are_numbers Word.Reconnect (tokens line.now) ≡ true }
-    ensures { result ≡ call_of Word.Reconnect count (tokens line.now) }
+fn reconnect_call(count: usize, line: &Line<'_>) -> Option<Call>
+    requires { are_numbers Word.Reconnect line.now ≡ true }
+    ensures { result ≡ call_of Word.Reconnect count line.now }
 {
     Some(Call::Reconnect {
         worker: u32_at(2, line),
@@ -124,9 +126,9 @@ fn reconnect_call(count: usize, line: &[u8]) -> Option<Call>
 
 /// The call that a line with this word and so many tokens spells.
 #[tactic(auto, unfolding(crate::specs::Calls::call_of))]
-pub(crate) fn call_of(word: Word, count: usize, line: &[u8]) -> Option<Call>
-    requires { are_numbers word (tokens line.now) ≡ true }
-    ensures { result ≡ call_of word count (tokens line.now) }
+pub(crate) fn call_of(word: Word, count: usize, line: &Line<'_>) -> Option<Call>
+    requires { are_numbers word line.now ≡ true }
+    ensures { result ≡ call_of word count line.now }
 {
     match word {
         Word::Open => open_call(count, line),

@@ -34,38 +34,17 @@ pub(crate) fn first_part(separator: u8, bytes: &[u8]) -> (&[u8], &[u8])
     (part, after)
 }
 
-/// How many tokens a line has.
-pub(crate) fn count_tokens(line: &[u8]) -> usize
-    ensures { result ≡ length (tokens line.now) }
+/// The first token of a line, or nothing.
+pub(crate) fn first_token(line: &[u8]) -> &[u8]
+    ensures { result.now ≡ token 0 (tokens line.now) }
 {
-    let mut count = 0;
     let mut rest = line;
     while !rest.is_empty() {
         let (part, after) = first_part(b' ', rest);
         if !part.is_empty() {
-            count += 1;
-        }
-        rest = after;
-    }
-    count
-}
-
-/// The token of a line with this index, or nothing.
-pub(crate) fn token_at(index: usize, line: &[u8]) -> &[u8]
-    ensures { result.now ≡ token index (tokens line.now) }
-{
-    let mut left = index;
-    let mut rest = line;
-    while !rest.is_empty() {
-        let (part, after) = first_part(b' ', rest);
-        rest = after;
-        if part.is_empty() {
-            continue;
-        }
-        if left == 0 {
             return part;
         }
-        left -= 1;
+        rest = after;
     }
     rest
 }

@@ -1,15 +1,15 @@
 ghost use Rattle.std.specs.Prelude.{◌≡◌, ◌<◌, ◌==◌, cond, Some, None, OnOk, is_none, true, length};
 ghost use Rattle.std.specs.List.{list_any};
-ghost use Rattle.worker_script.specs.Text.{tokens};
 ghost use Rattle.worker_script.specs.Values.{is_short};
 ghost use Rattle.worker_script.specs.Lines.{are_worker_numbers, worker_fault, worker_line};
 ghost use Rattle.worker_script.specs.Reader.{draft_of, IsReader, Finds, Reads};
 ghost use Rattle.worker_script.specs.Numbers.{worker_numbers};
 
 use crate::fault::Fault;
+use crate::line::Line;
 use crate::number::{number_u32, number_u64, positive_u32};
 use crate::reader::{Reader, Tally};
-use crate::text::{count_tokens, is_short, text, token_at};
+use crate::text::{is_short, text};
 use sid_core::WorkerInfo;
 
 /// The numbers of a line `worker W PID UID GUID MACHINE SHARE`.
@@ -21,14 +21,14 @@ pub(crate) struct WorkerNumbers {
     pub guid: u64,
 }
 
-fn worker_numbers(line: &[u8]) -> Option<WorkerNumbers>
-    ensures { result ≡ cond (are_worker_numbers (tokens line.now)) (Some (worker_numbers (tokens line.now))) None }
+fn worker_numbers(line: &Line<'_>) -> Option<WorkerNumbers>
+    ensures { result ≡ cond (are_worker_numbers line.now) (Some (worker_numbers line.now)) None }
 {
     Some(WorkerNumbers {
-        worker: number_u32(token_at(1, line))?,
-        pid: positive_u32(token_at(2, line))?,
-        uid: number_u32(token_at(3, line))?,
-        guid: number_u64(token_at(4, line))?,
+        worker: number_u32(line.token(1))?,
+        pid: positive_u32(line.token(2))?,
+        uid: number_u32(line.token(3))?,
+        guid: number_u64(line.token(4))?,
     })
 }
 
@@ -41,13 +41,13 @@ fn has_pid(workers: &[WorkerInfo], pid: u32) -> bool
 impl Reader {
     // What makes a worker line bad, or its numbers.
     #[tactic(auto, unfolding(crate::specs::Lines::worker_fault))]
-    fn worker_fault(&self, line: &[u8]) -> Result<WorkerNumbers, u32>
+    fn worker_fault(&self, line: &Line<'_>) -> Result<WorkerNumbers, u32>
         requires { IsReader self.now }
-        ensures fault { Finds (worker_fault (draft_of self.now) (tokens line.now)) (worker_numbers (tokens line.now)) result }
+        ensures fault { Finds (worker_fault (draft_of self.now) line.now) (worker_numbers line.now) result }
         ensures room { OnOk result (length self.now.workers < 64) }
         ensures no_phase { OnOk result (is_none self.now.current ≡ true) }
     {
-        if count_tokens(line) != 7 {
+        if line.len() != 7 {
             return Err(3);
         }
         let Some(numbers) = worker_numbers(line) else {
@@ -65,20 +65,20 @@ impl Reader {
         if has_pid(self.workers.as_slice(), numbers.pid) {
             return Err(12);
         }
-        if !(is_short(token_at(5, line)) && is_short(token_at(6, line))) {
+        if !(is_short(line.token(5)) && is_short(line.token(6))) {
             return Err(14);
         }
         Ok(numbers)
     }
 
     #[tactic(auto, unfolding(crate::specs::Lines::worker_line))]
-    pub fn worker_line(&mut self, line: &[u8]) -> Result<(), Fault>
+    pub fn worker_line(&mut self, line: &Line<'_>) -> Result<(), Fault>
         requires { IsReader self.old }
-        ensures { Reads (worker_line (draft_of self.old) (tokens line.now)) self.new result }
+        ensures { Reads (worker_line (draft_of self.old) line.now) self.new result }
     {
         let numbers = self.worker_fault(line)?;
-        let machine = text(self.alloc, token_at(5, line))?;
-        let share = text(self.alloc, token_at(6, line))?;
+        let machine = text(self.alloc, line.token(5))?;
+        let share = text(self.alloc, line.token(6))?;
         self.workers.push(WorkerInfo {
             pid: numbers.pid,
             uid: numbers.uid,
