@@ -5,11 +5,12 @@ ghost use Rattle.worker_script.specs.Calls.{last_token};
 use crate::text::first_part;
 use std::marker::Model;
 
-/// A line that was split once. Contracts see its tokens.
+/// A line that was split once. Contracts see all its tokens. The first nine are kept, which is the most that a line may have,
+/// and the last.
 #[derive(Drop)]
 pub(crate) struct Line<'a> {
     text: &'a [u8],
-    /// How many tokens there are, the first nine, and the last.
+    /// How many tokens there are.
     count: usize,
     first: [&'a [u8]; 9],
     last: &'a [u8],
@@ -28,6 +29,7 @@ impl<'a> Model for Line<'a> {
 }
 
 impl<'a> Line<'a> {
+    /// Takes time linear in the text, and no memory.
     pub fn new(text: &'a [u8]) -> Line<'a>
         ensures { result ≡ tokens text.now }
     {
@@ -71,6 +73,7 @@ impl<'a> Line<'a> {
         self.first[index]
     }
 
+    /// The last token, or nothing.
     pub fn last(&self) -> &'a [u8]
         ensures { result.now ≡ last_token self.now }
     {
