@@ -1,5 +1,7 @@
 -- To settle a settled table changes nothing; nor does it where there are no leases.
 use Rattle.std.proofs.Common.{◌≡◌, ◌==◌, ℕ, Bool, true, false, cond, not, ◌&&◌, ◌||◌, List, [], ◌∷◌, filter, map, Option, Some, None, refl, sym, ap, ◌∙◌}
+use Rattle.std.proofs.lemmas.Bool.{not-true}
+use Rattle.std.proofs.Math.Bool.{or-true, and-false}
 use Rattle.std.specs.List.{list_any}
 use Rattle.std.specs.Option.{option_map_or}
 use Rattle.sid_core.specs.declared.ids.LeaseName.{LeaseName}
@@ -17,14 +19,6 @@ use Rattle.serial_table.proofs.Views.{name-settled_lease, file-settled_lease, vi
 use Rattle.serial_table.specs.declared.change.Change.TheVariants.{Settle}
 
 -- ---- over plain tests
-
-or_true : (b : Bool) → (b || true) ≡ true
-or_true true = refl
-or_true false = refl
-
-pub and_false : (b : Bool) → (b && false) ≡ false
-and_false true = refl
-and_false false = refl
 
 left_false : (b c : Bool) → (b || c) ≡ false → b ≡ false
 left_false true c e = e
@@ -75,16 +69,12 @@ none_lack v f (l ∷ ls) e =
     (lacks_again v f l ∙ left_false (lacks_handle v f l) (list_any (lacks_handle v f) ls) e)
     (none_lack v f ls (right_false (lacks_handle v f l) (list_any (lacks_handle v f) ls) e))
 
-not_true : (b : Bool) → not b ≡ true → b ≡ false
-not_true true e = absurd cc
-not_true false e = refl
-
 kept_case : (v : View) (f : ℕ) (b : Bool) (o : Option LeaseName) → (b || not (option_map_or (λ name. list_any (lacks_handle v f) (v.leases_of name)) o false)) ≡ true
     → (b || not (option_map_or (λ name. list_any (lacks_handle (settled v) f) ((settled v).leases_of name)) o false)) ≡ true
 unfolding settled
 kept_case v f true o e = refl
 kept_case v f false None e = refl
-kept_case v f false (Some name) e = ap not (none_lack v f (v.leases_of name) (not_true (list_any (lacks_handle v f) (v.leases_of name)) e))
+kept_case v f false (Some name) e = ap not (none_lack v f (v.leases_of name) (not-true (list_any (lacks_handle v f) (v.leases_of name)) e))
 
 -- what is kept once is kept again
 kept_twice : (v : View) (row : OpenRow) → keeps_open v row ≡ true → keeps_open (settled v) row ≡ true
@@ -95,7 +85,7 @@ range_kept : (v : View) (range : RangeRow) → keeps_range (settled v) range ≡
 unfolding settled
 range_kept v range =
     ap not (any_same (λ row. same_id row.id range.id && not (keeps_open (settled v) row)) (λ _. false) (keeps_open v)
-    (λ row h. ap (λ b. same_id row.id range.id && not b) (kept_twice v row h) ∙ and_false (same_id row.id range.id)) (v.opens_of range.file)
+    (λ row h. ap (λ b. same_id row.id range.id && not b) (kept_twice v row h) ∙ and-false (same_id row.id range.id)) (v.opens_of range.file)
     ∙ any_none (λ _. false) (λ _. refl) (filter (keeps_open v) (v.opens_of range.file)))
 
 lease_kept : (v : View) (l : LeaseRow) → keeps_lease v l ≡ true → keeps_lease (settled v) l ≡ true
@@ -128,12 +118,12 @@ none_lost v f None e = refl
 none_lost v f (Some name) e = ap (list_any (lacks_handle v f)) (e name)
 
 pub keeps_every_open : (v : View) → ((name : LeaseName) → v.leases_of name ≡ []) → (row : OpenRow) → keeps_open v row ≡ true
-keeps_every_open v e row = ap (λ b. is_connected v row || not b) (none_lost v row.file row.lease e) ∙ or_true (is_connected v row)
+keeps_every_open v e row = ap (λ b. is_connected v row || not b) (none_lost v row.file row.lease e) ∙ or-true (is_connected v row)
 
 pub keeps_every_range : (v : View) → ((name : LeaseName) → v.leases_of name ≡ []) → (range : RangeRow) → keeps_range v range ≡ true
 keeps_every_range v e range =
     ap not (any_none (λ row. same_id row.id range.id && not (keeps_open v row))
-    (λ row. ap (λ b. same_id row.id range.id && not b) (keeps_every_open v e row) ∙ and_false (same_id row.id range.id)) (v.opens_of range.file))
+    (λ row. ap (λ b. same_id row.id range.id && not b) (keeps_every_open v e row) ∙ and-false (same_id row.id range.id)) (v.opens_of range.file))
 
 pub no_leases : (t : Table) → t.leases ≡ [] → (name : LeaseName) → (view t).leases_of name ≡ []
 no_leases t e name = ap (filter (λ lease. same_name lease.name name)) e

@@ -40,7 +40,8 @@ use Rattle.serial_table.specs.Step.{declared_at, step}
 use Rattle.serial_table.specs.History.{start, start_workers, called, after_event, after_entry, after_all, after, IsLegalEvent, AreLegal, IsLegal, own_number, numbers_of, RisesAbove}
 use Rattle.serial_table.specs.Sound.{IsSound, have_same_id, have_same_handle, have_same_name, has_its_lease, holds_handle, is_leased_if_durable, may_stay, has_open, is_sound_lease, has_its_open, waits_among_living, cannot_both_hold, cannot_both_wait}
 use Rattle.serial_table.proofs.Differing.{all_filtered, all_pushed, all_weaker, distinct_none, distinct_filtered, distinct_pushed, all_true, is_among, is_below, among_more, among_last}
-use Rattle.serial_table.proofs.Settling.{settle_without_leases, and_false}
+use Rattle.std.proofs.Math.Bool.{and-false}
+use Rattle.serial_table.proofs.Settling.{settle_without_leases}
 use Rattle.serial_table.proofs.Views.{view-apply_all}
 use Rattle.serial_table.proofs.Woken.{apply_all-append}
 use Rattle.serial_table.proofs.Workers.{IsFirstCaller, first_caller, worker_lives, one_worker}
@@ -247,7 +248,7 @@ fresh_id setup history worker number moment caller later file access share s fir
         let among : is_among row.id.call (numbers_of worker history) ≡ true = subst (λ w. is_among row.id.call (numbers_of w history) ≡ true) workers plain.made in
         let below : row.id.call < number = is_below 0 number row.id.call (numbers_of worker history) later rises among in
         let differs : (row.id.call == caller.number) ≡ false = ap (λ n. row.id.call == n) first.number_is ∙ below_differs row.id.call number below in
-        ap (λ b. (row.id.pid == caller.sid.pid) && b) differs ∙ and_false (row.id.pid == caller.sid.pid)
+        ap (λ b. (row.id.pid == caller.sid.pid) && b) differs ∙ and-false (row.id.pid == caller.sid.pid)
 
 -- ---- one entry
 

@@ -1,5 +1,6 @@
 -- Changes made one after another, and the spots that they free.
 use Rattle.std.proofs.Common.{◌≡◌, ℕ, ◌+◌, ◌<◌, Bool, true, false, cond, ◌||◌, List, [], ◌∷◌, ◌++◌, length, take, get_or, filter, map, refl, sym, ap, ◌∙◌}
+use Rattle.std.proofs.Math.Bool.{or-false, or_assoc}
 use Rattle.std.proofs.lemmas.List.{take_more}
 use Rattle.sid_core.specs.declared.ids.Spot.{Spot}
 use Rattle.serial_table.specs.declared.table.Table.{Table}
@@ -19,19 +20,11 @@ pub apply_all-append : (cs ds : List Change) (t : Table) → apply_all (cs ++ ds
 apply_all-append [] ds t = refl
 apply_all-append (c ∷ cs) ds t = apply_all-append cs ds (apply c t)
 
-or_false : (b : Bool) → (b || false) ≡ b
-or_false true = refl
-or_false false = refl
-
-or_assoc : (a b c : Bool) → (a || (b || c)) ≡ ((a || b) || c)
-or_assoc true b c = refl
-or_assoc false b c = refl
-
 pub some_frees-append : (cs : List Change) (c : Change) (v : View) (spot : Spot) → some_frees (cs ++ c ∷ []) v spot ≡ (some_frees cs v spot || frees c (change_all cs v) spot)
-some_frees-append [] c v spot = or_false (frees c v spot)
+some_frees-append [] c v spot = or-false (frees c v spot)
 some_frees-append (d ∷ cs) c v spot =
     ap (λ b. frees d v spot || b) (some_frees-append cs c (change d v) spot)
-    ∙ or_assoc (frees d v spot) (some_frees cs (change d v) spot) (frees c (change_all cs (change d v)) spot)
+    ∙ sym (or_assoc (frees d v spot) (some_frees cs (change d v) spot) (frees c (change_all cs (change d v)) spot))
 
 map_judged : (f g h : Spot → Bool) → ((spot : Spot) → h spot ≡ (f spot || g spot)) → (spots : List Spot) → map (freed_too g) (map (judged f) spots) ≡ map (judged h) spots
 map_judged f g h e [] = refl

@@ -1,15 +1,11 @@
 -- The planned calls, when one more is planned.
-use Rattle.std.proofs.Common.{◌≡◌, ℕ, ◌+◌, ◌≤◌, Bool, true, false, cond, eqb, List, [], ◌∷◌, ◌++◌, length, Option, Some, None, refl, ap, sym, ◌∙◌, append_assoc, length-append, arith}
+use Rattle.std.proofs.Common.{◌≡◌, ℕ, ◌+◌, ◌≤◌, Bool, true, false, cond, eqb, List, [], ◌∷◌, ◌++◌, length, Option, Some, None, refl, ap, sym, ◌∙◌, append_assoc, length-append, append-nil, arith}
 use Rattle.std.proofs.lemmas.Bool.Decides.{nat_tests}
 use Rattle.std.specs.Option.{option_to_list, IsSome}
 use Rattle.worker_script.specs.declared.script.Planned.{Planned}
 use Rattle.worker_script.specs.declared.script.Phase.{Phase}
 use Rattle.worker_script.specs.Script.{all_calls, own_number, numbers_of}
 use Rattle.worker_script.specs.Lines.{with_planned}
-
-pub append-nil : {X : Type 0} (xs : List X) → xs ++ [] ≡ xs
-append-nil [] = refl
-append-nil (x ∷ xs) = ap (λ ys. x ∷ ys) (append-nil xs)
 
 pub all_calls-append : (xs ys : List Phase) → all_calls (xs ++ ys) ≡ all_calls xs ++ all_calls ys
 all_calls-append [] ys = refl

@@ -1,5 +1,6 @@
 -- What the tests on tokens say.
 use Rattle.std.proofs.Common.{◌≡◌, ℕ, ◌<◌, ◌≤◌, Bool, true, false, not, cond, eqb, leb, ltb, bit_and, ◌&&◌, List, [], ◌∷◌, length, Option, Some, None, is_none, unwrap_or, refl, arith}
+use Rattle.std.proofs.lemmas.Bool.{and_parts}
 use Rattle.std.specs.List.{AllByRecursion, list_all, filter, onto_first}
 use Rattle.std.proofs.lemmas.Bool.Decides.{nat_tests}
 use Rattle.std.proofs.lemmas.Slice.Eq.{bytes_eq-Decides}
@@ -8,14 +9,13 @@ use Rattle.std.specs.Str.{bytes_eq}
 use Rattle.sid_core.specs.Values.{IsPrintable, IsText, IsAccess, IsShare}
 use Rattle.worker_script.specs.Text.{parts, tokens, token, is_empty, is_plain}
 use Rattle.worker_script.specs.Values.{value, is_digit, is_number, is_numeral, is_short, known_access, access, hex_after, share}
-use Rattle.worker_script.proofs.Lists.{and_true}
 
 -- A number lies in its range.
 pub number-range : (low high : ℕ) (t : List ℕ) → is_number low high t ≡ true → (low ≤ value t) × (value t ≤ high)
 unfolding is_number
 number-range low high t e =
-    let outer = and_true (is_numeral t && leb low (value t)) (leb (value t) high) e in
-    let inner = and_true (is_numeral t) (leb low (value t)) outer.0 in
+    let outer = and_parts (is_numeral t && leb low (value t)) (leb (value t) high) e in
+    let inner = and_parts (is_numeral t) (leb low (value t)) outer.0 in
     let low' = inner.1 in let high' = outer.1 in
     (grind (arith, nat_tests), grind (arith, nat_tests))
 
@@ -23,7 +23,7 @@ abbrev pub IsToken : List ℕ → Type 0
 IsToken t = (1 ≤ length t) × AllByRecursion IsPrintable t
 
 plain-printable : (b : ℕ) → is_plain b ≡ true → eqb b 32 ≡ false → IsPrintable b
-plain-printable b plain no_space = let p = and_true (leb 32 b) (leb b 126) plain in let low = p.0 in let high = p.1 in (grind (arith, nat_tests), grind (arith, nat_tests))
+plain-printable b plain no_space = let p = and_parts (leb 32 b) (leb b 126) plain in let low = p.0 in let high = p.1 in (grind (arith, nat_tests), grind (arith, nat_tests))
 
 onto-printable : (b : ℕ) (ps : List (List ℕ)) → IsPrintable b → AllByRecursion (AllByRecursion IsPrintable) ps → AllByRecursion (AllByRecursion IsPrintable) (onto_first b ps)
 onto-printable b [] here all = ((here, tt), tt)
@@ -37,7 +37,7 @@ part-step b ps false e plain all = onto-printable b ps (plain-printable b plain 
 parts-printable : (line : List ℕ) → list_all is_plain line ≡ true → AllByRecursion (AllByRecursion IsPrintable) (parts 32 line)
 parts-printable [] e = tt
 parts-printable (b ∷ line) e =
-    let both = and_true (is_plain b) (list_all is_plain line) e in
+    let both = and_parts (is_plain b) (list_all is_plain line) e in
     part-step b (parts 32 line) (eqb b 32) refl both.0 (parts-printable line both.1)
 
 filter-tokens : (ps : List (List ℕ)) → AllByRecursion (AllByRecursion IsPrintable) ps → AllByRecursion IsToken (filter (λ part. not (is_empty part)) ps)
@@ -59,7 +59,7 @@ known-step n false good some = cc
 
 known-good : (n : ℕ) → (ltb 0 n && eqb (bit_and n 0x1F01FF) n) ≡ true → IsAccess n
 known-good n e =
-    let both = and_true (ltb 0 n) (eqb (bit_and n 0x1F01FF) n) e in
+    let both = and_parts (ltb 0 n) (eqb (bit_and n 0x1F01FF) n) e in
     let some = both.0 in let same = both.1 in
     record { some = grind (arith, nat_tests); known = grind (arith, nat_tests) }
 

@@ -1,5 +1,6 @@
 -- What is read is a script.
 use Rattle.std.proofs.Common.{◌≡◌, ℕ, ◌-◌, ◌^◌, ◌<◌, ◌≤◌, Bool, true, false, not, cond, leb, ltb, List, [], ◌∷◌, ◌++◌, length, map, Option, Some, None, ◌==◌, is_some, Ok, nat_eq, refl, subst, ◌∙◌, length-append, arith}
+use Rattle.std.proofs.lemmas.Bool.{and_parts}
 use Rattle.std.specs.List.{AllByRecursion, list_any}
 use Rattle.std.specs.Option.{option_to_list}
 use Rattle.std.proofs.lemmas.Bool.Decides.{nat_tests}
@@ -11,7 +12,7 @@ use Rattle.worker_script.specs.Text.{token}
 use Rattle.worker_script.specs.Values.{value, is_short}
 use Rattle.worker_script.specs.Script.{NeverFallsFrom, IsPhase, IsScript}
 use Rattle.worker_script.specs.Lines.{Draft, phases_of, script_of, checked, are_worker_numbers, worker_fault, worker_info, worker_line, are_file_numbers, is_place, file_fault, file_info, file_line, moment_of, new_phase, phase_fault, phase_line}
-use Rattle.worker_script.proofs.Lists.{and_true, all-push, distinct-push, map-push, any-map, falls-push, at-token}
+use Rattle.worker_script.proofs.Lists.{all-push, distinct-push, map-push, any-map, falls-push, at-token}
 use Rattle.worker_script.proofs.Counts.{all_calls-new}
 use Rattle.worker_script.proofs.Facts.{IsToken, number-range, text-short}
 
@@ -52,7 +53,7 @@ worker-line draft ts e =
     let t7 = none-first 7 _ _ t6.1 in
     let t12 = none-first 12 _ _ t7.1 in
     let t14 = none-first 14 _ _ t12.1 in
-    let texts = and_true _ _ (not_false _ t14.0) in
+    let texts = and_parts _ _ (not_false _ t14.0) in
     let count = not_false _ t3.0 in
     let room = t7.0 in
     record {
@@ -74,9 +75,9 @@ no-phases draft d none = rw (d.begun none, none-from draft.current none) refl
 
 is-worker : (draft : Draft) (ts : List (List ℕ)) → AllByRecursion IsToken ts → IsWorkerLine draft ts → IsWorker (worker_info ts)
 is-worker draft ts all line =
-    let a = and_true _ _ line.numbers in
-    let b = and_true _ _ a.0 in
-    let c = and_true _ _ b.0 in
+    let a = and_parts _ _ line.numbers in
+    let b = and_parts _ _ a.0 in
+    let c = and_parts _ _ b.0 in
     let pid = number-range 1 (2 ^ 32 - 1) (token 2 ts) c.1 in
     let uid = number-range 0 (2 ^ 32 - 1) (token 3 ts) b.1 in
     let guid = number-range 0 (2 ^ 64 - 1) (token 4 ts) a.1 in
@@ -141,7 +142,7 @@ file-line draft ts e =
     let t8 = none-first 8 _ _ t6.1 in
     let t13 = none-first 13 _ _ t8.1 in
     let t14 = none-first 14 _ _ t13.1 in
-    let texts = and_true _ _ (not_false _ t14.0) in
+    let texts = and_parts _ _ (not_false _ t14.0) in
     let count = not_false _ t3.0 in
     let room = t8.0 in
     record {
@@ -156,8 +157,8 @@ file-line draft ts e =
 
 is-file : (draft : Draft) (ts : List (List ℕ)) → AllByRecursion IsToken ts → IsFileLine draft ts → IsFile (file_info ts)
 is-file draft ts all line =
-    let a = and_true _ _ line.numbers in
-    let b = and_true _ _ a.0 in
+    let a = and_parts _ _ line.numbers in
+    let b = and_parts _ _ a.0 in
     let dev = number-range 0 (2 ^ 64 - 1) (token 2 ts) b.1 in
     let inode = number-range 0 (2 ^ 64 - 1) (token 3 ts) a.1 in
     let count = line.count in

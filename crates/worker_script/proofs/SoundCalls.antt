@@ -1,5 +1,6 @@
 -- A call line goes on with a script.
 use Rattle.std.proofs.Common.{◌≡◌, ℕ, ◌-◌, ◌^◌, ◌<◌, Bool, true, false, not, eqb, leb, ◌&&◌, List, [], ◌∷◌, ◌++◌, length, map, Option, Some, None, is_some, is_none, unwrap_or, Result, Ok, Err, zero, suc, ◌==◌, refl, sym, subst, ◌∙◌, length-append, arith, ◌||◌}
+use Rattle.std.proofs.lemmas.Bool.{or_parts, and_parts, not-true}
 use Rattle.std.specs.List.{AllByRecursion}
 use Rattle.std.specs.Option.{option_to_list, option_map, option_map_or, IsSome}
 use Rattle.std.proofs.lemmas.Bool.Decides.{nat_tests}
@@ -22,7 +23,7 @@ use Rattle.worker_script.specs.declared.word.Word.TheVariants as word
 use Rattle.worker_script.specs.Words.{word_of}
 use Rattle.worker_script.specs.Options.{asked_in}
 use Rattle.worker_script.specs.Calls.{has_stop, call_length, planned_stop, is_status, statuses_in, wrong_length, wrong_number, names_no_worker, call_of, head_fault, open_fault, stop_fault, known, head, spelled, tail, call_behind, call_in, after_call, known_call, spelled_call, open_with, both, planned_call, with_call, call_line, is_built_call}
-use Rattle.worker_script.proofs.Lists.{or_false, and_true, all-push, all-last, map-push, counts-push}
+use Rattle.worker_script.proofs.Lists.{all-push, all-last, map-push, counts-push}
 use Rattle.worker_script.proofs.Facts.{number-range, access-known, share-known}
 use Rattle.worker_script.proofs.Counts.{planned-more, numbers-push, numbers-others, numbers-few}
 use Rattle.worker_script.proofs.Sound.{IsDraft, none-first, not_false}
@@ -106,13 +107,9 @@ call-sound draft worker call d line =
 
 is-declared : {X : Type 0} (xs : List X) (number : ℕ) → not (is_declared xs number) ≡ false → IsDeclared xs number
 is-declared xs number e =
-    let both = and_true (leb 1 number) (leb number (length xs)) (not_false (is_declared xs number) e) in
+    let both = and_parts (leb 1 number) (leb number (length xs)) (not_false (is_declared xs number) e) in
     let low = both.0 in let high = both.1 in
     (grind (arith, nat_tests), grind (arith, nat_tests))
-
-not_true : (b : Bool) → not b ≡ true → b ≡ false
-not_true true e = cc
-not_true false e = refl
 
 -- Where there is an answer, there is no fault.
 judged-ok : {X : Type 0} (fault : Option ℕ) (answer : Result X ℕ) (x : X) → judged fault answer ≡ Ok x → (fault ≡ None) × (answer ≡ Ok x)
@@ -151,8 +148,8 @@ head-line draft w count ts e =
     let t11 = none-first 11 (is_status w && leb 100 (statuses_in (planned_in draft))) _ t10.1 in
     let t16 = none-first 16 (is_none draft.current) _ t11.1 in
     let t17 = none-first 17 (not (is_declared draft.workers (value (token 0 ts))) || names_no_worker w draft ts) None t16.1 in
-    let numbers = or_false (not (is_u32 (token 0 ts))) (wrong_number w ts) t4.0 in
-    let workers = or_false (not (is_declared draft.workers (value (token 0 ts)))) (names_no_worker w draft ts) t17.0 in
+    let numbers = or_parts (not (is_u32 (token 0 ts))) (wrong_number w ts) t4.0 in
+    let workers = or_parts (not (is_declared draft.workers (value (token 0 ts)))) (names_no_worker w draft ts) t17.0 in
     let room = t10.0 in
     record {
       numbers = numbers.1;
@@ -229,10 +226,10 @@ pub call-line-sound : (draft after : Draft) (ts : List (List ℕ)) → IsDraft d
 unfolding call_line call_in is_built_call
 call-line-sound draft after ts d built e =
     let count = call_length ts in
-    let outer = and_true ((value (token 0 ts) == 1) && not (has_stop ts)) (option_map_or is_built (spelled_call ts) false) built in
-    let inner = and_true (value (token 0 ts) == 1) (not (has_stop ts)) outer.0 in
+    let outer = and_parts ((value (token 0 ts) == 1) && not (has_stop ts)) (option_map_or is_built (spelled_call ts) false) built in
+    let inner = and_parts (value (token 0 ts) == 1) (not (has_stop ts)) outer.0 in
     let first = inner.0 in
-    let alive = not_true (has_stop ts) inner.1 in
+    let alive = not-true (has_stop ts) inner.1 in
     let one : value (token 0 ts) ≡ 1 = grind (arith, nat_tests) in
     let found = call-ok draft after ts (call_behind draft count ts (head draft (word_of (token 1 ts)) count ts)) e in
     let behind = word-ok draft count ts (head draft (word_of (token 1 ts)) count ts) found.0 found.1 in

@@ -1,6 +1,7 @@
 -- A line while it is split.
-use Rattle.std.proofs.Common.{◌≡◌, ◌≢◌, ℕ, zero, suc, ◌+◌, ◌-◌, ◌<◌, ◌≤◌, Bool, true, false, cond, eqb, ltb, List, [], ◌∷◌, length, set, Option, Some, None, refl, sym, ap, ◌∙◌, arith}
+use Rattle.std.proofs.Common.{◌≡◌, ◌≢◌, ℕ, zero, suc, ◌+◌, ◌-◌, ◌<◌, ◌≤◌, Bool, true, false, cond, eqb, ltb, List, [], ◌∷◌, length, set, refl, sym, ap, ◌∙◌, arith}
 use Rattle.std.proofs.lemmas.Bool.Decides.{nat_tests}
+use Rattle.std.proofs.lemmas.Option.{IfSome_then}
 use Rattle.std.specs.Prelude.{slice_get, IfSome}
 use Rattle.std.specs.Borrow.{Bor}
 use Rattle.worker_script.specs.Text.{token}
@@ -16,10 +17,6 @@ pub record Splitting (ts left : List (List ℕ)) (count : ℕ) (first : List (Bo
   pub some : 0 < count → last ≡ token (count - 1) ts
 
 -- ---- what an array holds after one of its items is set
-
-if-some : {X : Type 0} (o : Option X) (P Q : X → Type 0) → ((x : X) → P x → Q x) → IfSome o P → IfSome o Q
-if-some None P Q more p = tt
-if-some (Some x) P Q more p = more x p
 
 set-same : {X : Type 0} (xs : List X) (i : ℕ) (x : X) (P : X → Type 0) → P x → IfSome (slice_get (set xs i x) i) P
 set-same [] i x P p = tt
@@ -122,7 +119,6 @@ split-done ts count first last s =
     let counted = s.counted in
     record {
       counted = grind arith;
-      kept = λ index small. if-some (slice_get first index) (λ t. t.now ≡ cond (ltb index count) (token index ts) []) (λ t. t.now ≡ token index ts)
-          (λ t is. is ∙ beyond ts index count (ltb index count) refl s.ahead) (s.kept index small);
+      kept = λ index small. IfSome_then (slice_get first index) (s.kept index small) (λ t is. is ∙ beyond ts index count (ltb index count) refl s.ahead);
       ends = ends ts count first last s;
     }

@@ -1,5 +1,6 @@
 -- What is planned for each worker, when one call more is planned.
-use Rattle.std.proofs.Common.{◌≡◌, ℕ, ◌+◌, ◌-◌, ◌<◌, ◌≤◌, Bool, true, false, cond, eqb, ◌&&◌, ◌||◌, List, [], ◌∷◌, ◌++◌, length, get_or, set, is_some, refl, ap, sym, ◌∙◌, length-append, arith}
+use Rattle.std.proofs.Common.{◌≡◌, ℕ, ◌+◌, ◌-◌, ◌<◌, ◌≤◌, Bool, true, false, cond, eqb, ◌&&◌, ◌||◌, List, [], ◌∷◌, ◌++◌, length, get_or, set, is_some, refl, ap, sym, ◌∙◌, length-append, append-nil, arith}
+use Rattle.std.proofs.Math.Bool.{or-false, or_assoc}
 use Rattle.std.specs.List.{fold}
 use Rattle.std.proofs.lemmas.Bool.Decides.{nat_tests}
 use Rattle.std.proofs.lemmas.List.{get_or-set_same, get_or-set_other}
@@ -8,22 +9,14 @@ use Rattle.worker_script.specs.declared.reader.Tally.{Tally}
 use Rattle.worker_script.specs.Script.{numbers_of}
 use Rattle.worker_script.specs.Calls.{has_stopped, is_status_call, statuses_in}
 use Rattle.worker_script.specs.Reader.{tally_in, no_tally}
-use Rattle.worker_script.proofs.Counts.{append-nil, numbers_of-append, own_number-own, own_number-other}
-
-or-none : (b : Bool) → (b || false) ≡ b
-or-none true = refl
-or-none false = refl
-
-or-assoc : (a b c : Bool) → ((a || b) || c) ≡ (a || (b || c))
-or-assoc true b c = refl
-or-assoc false b c = refl
+use Rattle.worker_script.proofs.Counts.{numbers_of-append, own_number-own, own_number-other}
 
 stopped-push : (worker : ℕ) (calls : List Planned) (planned : Planned)
     → has_stopped worker (calls ++ planned ∷ []) ≡ (has_stopped worker calls || (eqb planned.worker worker && is_some planned.stop))
-stopped-push worker [] planned = or-none (eqb planned.worker worker && is_some planned.stop)
+stopped-push worker [] planned = or-false (eqb planned.worker worker && is_some planned.stop)
 stopped-push worker (x ∷ calls) planned =
     ap (λ b. (eqb x.worker worker && is_some x.stop) || b) (stopped-push worker calls planned)
-    ∙ sym (or-assoc (eqb x.worker worker && is_some x.stop) (has_stopped worker calls) (eqb planned.worker worker && is_some planned.stop))
+    ∙ sym (or_assoc (eqb x.worker worker && is_some x.stop) (has_stopped worker calls) (eqb planned.worker worker && is_some planned.stop))
 
 same-tally : (m n : ℕ) (a b : Bool) → m ≡ n → a ≡ b → ◌≡◌ {A = Tally} (record { made = m; stopped = a }) (record { made = n; stopped = b })
 same-tally m n a b e f = cc
@@ -32,7 +25,7 @@ stops-own : (t a b : Bool) → t ≡ true → (a || (t && b)) ≡ (a || b)
 stops-own t a b e = rw e refl
 
 stops-other : (t a b : Bool) → t ≡ false → (a || (t && b)) ≡ a
-stops-other t a b e = rw e (or-none a)
+stops-other t a b e = rw e (or-false a)
 
 -- Its worker has one call more, and dies where it has a stop.
 pub tally-own : (worker : ℕ) (calls : List Planned) (planned : Planned) → planned.worker ≡ worker
