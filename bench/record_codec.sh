@@ -3,7 +3,7 @@
 # Run by hand on the program that the gate built; the gate doesn't.
 set -eu
 cd "$(dirname "$0")/.."
-program=crates/codec_bench/out/codec_bench
+program=crates/bench/out/bench
 . bench/counting.sh
 
 echo '| entries | bytes | pack | unpack | pack, a byte | unpack, a byte |'

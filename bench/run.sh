@@ -55,6 +55,60 @@ mixed() {
   }'
 }
 
+# drawn CALLS: the calls of eight workers on sixteen files, so many for each of them in each of four phases, drawn by a congruential
+# generator that begins with CALLS. Worker 8 dies in its last one. Then six workers disconnect, and at the end one scavenges.
+drawn() {
+  local calls=$1 x=$1 w f phase call a file handle span line
+  local -a number=(0 0 0 0 0 0 0 0 0)
+  for ((w = 1; w <= 8; w++)); do echo "worker $w $((100 + w)) $((1000 + w)) $w m$w data"; done
+  for ((f = 1; f <= 16; f++)); do echo "file $f 1 $f /srv/data f$f"; done
+  for ((phase = 0; phase < 4; phase++)); do
+    echo "phase $((100 * phase))"
+    for ((w = 1; w <= 8; w++)); do
+      for ((call = 1; call <= calls; call++)); do
+        x=$((x * 6364136223846793005 + 1442695040888963407))
+        a=$(((x >> 33) & 0x7FFFFFFF))
+        number[w]=$((number[w] + 1))
+        file=$((a / 8 % 16 + 1)) handle=$((a / 8 % number[w] + 1)) span=$((a / 128 % 64))
+        case $((a % 8)) in
+          0) line="open $file 0x3 rwd lease=$((100 + file)):RWH durable=60" ;;
+          1) line="open $file 0x1 r" ;;
+          2) line="open $file 0x2 w" ;;
+          3) line="close $handle" ;;
+          4) line="ack $((100 + file)) R" ;;
+          5) line="lock $handle $span 4 x now" ;;
+          6) line=recv ;;
+          7) if ((span % 2 == 0)); then line="glock $file r now"; else line="gunlock $file"; fi ;;
+        esac
+        if ((phase == 3 && w == 8 && call == calls)); then line="$line !commit"; fi
+        echo "$w $line"
+      done
+    done
+  done
+  echo 'phase 1000000'
+  for ((w = 2; w <= 7; w++)); do echo "$w disconnect"; done
+  printf '%s\n' 'phase 2000000' '1 scavenge'
+}
+
+# leased: 10,000 opens with leases, each of its own file, by 64 workers; a quarter of the leases are then broken by another's open,
+# which waits, the letter is taken, the break acknowledged, and the open made again: 20,000 calls
+leased() {
+  awk 'BEGIN {
+    for (w = 1; w <= 64; w++) printf "worker %d %d %d %d host%d data\n", w, 100 + w, 1000 + w, w, w
+    for (f = 1; f <= 10000; f++) printf "file %d 1 %d /srv/data file%d\n", f, f, f
+    print "phase 0"
+    for (f = 1; f <= 10000; f++) print f % 64 + 1, "open", f, "0x3 rwd lease=" f ":RWH durable=60"
+    print "phase 1"
+    for (f = 1; f <= 2500; f++) print (f + 1) % 64 + 1, "open", f, "0x1 rwd"
+    print "phase 2"
+    for (f = 1; f <= 2500; f++) print f % 64 + 1, "recv"
+    print "phase 3"
+    for (f = 1; f <= 2500; f++) print f % 64 + 1, "ack", f, "RH"
+    print "phase 4"
+    for (f = 1; f <= 2500; f++) print (f + 1) % 64 + 1, "open", f, "0x1 rwd"
+  }'
+}
+
 echo '| input | bytes or calls | instructions | for each |'
 echo '|---|---|---|---|'
 script=examples/open_and_close.txt
@@ -65,9 +119,9 @@ for total in 1048576 4194304; do
   [ "$(wc -c <"$room/script")" -eq "$total" ]
   row "comment lines, $((total / 1048576)) MiB with the first example" $((total - size)) "$alone"
 done
-mixed 20000 >"$room/script"
+{ mixed 20000; echo bad; } >"$room/script"
 size=$(wc -c <"$room/script")
-row '20,000 calls of all words, 64 workers, 10,000 files; read and not run' "$size" "$(instructions 0 run </dev/null)" 20
+row '20,000 calls of all words, 64 workers, 10,000 files, and a bad last line: read and not run' "$size" "$(instructions 0 run </dev/null)" 2
 closed_at_once 0 >"$room/script"
 none=$(instructions 0 run <"$room/script")
 for calls in 2000 20000; do
@@ -78,3 +132,7 @@ for calls in 500 1000 2000; do
   closed_at_the_end "$calls" >"$room/script"
   row "$calls calls, half of them opens that stay until the end" "$calls" "$none"
 done
+drawn 50 >"$room/script"
+row 'drawn calls, 50 for each of 8 workers in each of 4 phases' 1607 "$none"
+leased >"$room/script"
+row '20,000 calls of 64 workers on 10,000 files with leases' 20000 "$none"

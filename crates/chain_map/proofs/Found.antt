@@ -1,9 +1,7 @@
 -- A binary search by the order of keys ends at the key's place, or at the gap for it.
-use Rattle.std.proofs.Common.{◌≡◌, ℕ, zero, suc, ◌+◌, ◌<◌, ◌≤◌, Bool, true, false, List, [], ◌∷◌, length, get_or, refl, sym, ap, subst, ◌∙◌, Result, Ok, Err, IfOk, IfErr, arith, add-one}
-use Rattle.std.specs.declared.cmp.Ordering.{Ordering}
+use Rattle.std.proofs.Common.{◌≡◌, ℕ, zero, suc, ◌<◌, ◌≤◌, true, false, List, [], ◌∷◌, length, get_or, refl, ap, subst, Result, Ok, Err, IfOk, IfErr, arith, add-one}
 use Rattle.std.specs.declared.cmp.Ordering.TheVariants.{Less, Equal, Greater}
 use Rattle.std.specs.Ordering.{is_lt}
-use Rattle.std.specs.List.{AllWithin}
 use Rattle.std.specs.List.Sorted.{IsSearchInRange, IsBinarySearchResult, IsSortedBy}
 use Rattle.std.specs.FinMap.Entries.{below_all}
 use Rattle.std.proofs.lemmas.Bool.{and_parts, and_from}
@@ -28,7 +26,7 @@ in_order (pair ∷ pairs) (suc i) d rising in_range = in_order pairs i d (and_pa
 sorted_by_key : (pairs : Pairs) → IsRising pairs → IsSortedBy (λ a b. is_lt (byte_order a.0 b.0)) pairs
 sorted_by_key pairs rising i d low in_range = rw add-one (in_order pairs i d rising (omega arith))
 
-at_from : (key : List ℕ) (pairs : Pairs) (i : ℕ) (d : List ℕ × List ℕ) → IsRising pairs → i < length pairs → byte_order (get_or pairs i d).0 key ≡ Equal → IsAt key pairs i
+pub at_from : (key : List ℕ) (pairs : Pairs) (i : ℕ) (d : List ℕ × List ℕ) → IsRising pairs → i < length pairs → byte_order (get_or pairs i d).0 key ≡ Equal → IsAt key pairs i
 at_from key [] i d rising in_range equal = absurd (omega arith)
 at_from key (pair ∷ pairs) zero d rising in_range equal = turned pair.0 key Equal equal
 at_from key (pair ∷ pairs) (suc i) d rising in_range equal =

@@ -1,16 +1,16 @@
 -- The leaf in which a key is at home, and what a change of that leaf makes of all pairs.
-use Rattle.std.proofs.Common.{◌≡◌, ℕ, zero, suc, ◌+◌, ◌-◌, ◌<◌, ◌≤◌, Bool, true, false, not, List, [], ◌∷◌, ◌++◌, length, get_or, set, take, drop, refl, sym, ap, subst, ◌∙◌, Some, None, Option, IfSome, IfNone, append_assoc, add-one, arith}
+use Rattle.std.proofs.Common.{◌≡◌, ℕ, zero, suc, ◌+◌, ◌-◌, ◌<◌, ◌≤◌, ◌==◌, true, false, not, List, [], ◌∷◌, ◌++◌, length, get_or, set, refl, sym, ap, subst, ◌∙◌, Some, None, Option, append_assoc, append-nil, add-one, arith}
 use Rattle.std.specs.declared.cmp.Ordering.{Ordering}
 use Rattle.std.specs.declared.cmp.Ordering.TheVariants.{Less, Equal, Greater}
 use Rattle.std.specs.Ordering.{is_le, is_lt, is_gt}
-use Rattle.std.specs.Option.{SomeIff}
 use Rattle.std.specs.List.{insert, remove, AllWithin}
 use Rattle.std.specs.List.Sorted.{IsPartitionedBy}
 use Rattle.std.specs.FinMap.Entries.{below_all}
 use Rattle.std.proofs.lemmas.Bool.{and_parts, and_from, false≢true, true≢false}
+use Rattle.std.proofs.lemmas.Map.Views.{exact_unsigned_eq}
 use Rattle.chain_map.specs.Pairs.{Pairs, byte_order, IsRising, find, put, without}
 use Rattle.chain_map.specs.Leaves.{joined, has_pairs, both, both_have_pairs, IsFilled, starts_by, above_all, IsHome, spliced}
-use Rattle.chain_map.proofs.Order.{total, same_key, turned, less_from_test}
+use Rattle.chain_map.proofs.Order.{total, same_key, turned}
 use Rattle.chain_map.proofs.Place.{below_first, below_rest, find_below, without_below}
 
 greater_from_test : (o : Ordering) → is_gt o ≡ true → o ≡ Greater
@@ -32,7 +32,7 @@ le_chain x y key less le = go (byte_order y key) refl le
     go Equal e le = subst (λ k. byte_order x k ≡ Less) (same_key y key e) less
     go Greater e le = absurd (false≢true le)
 
-below_less : (x y : List ℕ) (pairs : Pairs) → byte_order x y ≡ Less → below_all byte_order y pairs ≡ true → below_all byte_order x pairs ≡ true
+pub below_less : (x y : List ℕ) (pairs : Pairs) → byte_order x y ≡ Less → below_all byte_order y pairs ≡ true → below_all byte_order x pairs ≡ true
 below_less x y [] less below = refl
 below_less x y (pair ∷ pairs) less below =
     and_from _ _ (ap is_lt (total.trans x y pair.0 less (below_first y pair pairs below))) (below_less x y pairs less (below_rest y pair pairs below))
@@ -145,18 +145,6 @@ put-below : (key value : List ℕ) (xs ys : Pairs) → below_all byte_order key 
 put-below key value [] ys below = put-front key value ys below
 put-below key value (x ∷ xs) ys below = put-below_more key value x xs ys (put-below key value xs ys below)
 
-length-put_more : (key value : List ℕ) (x : List ℕ × List ℕ) (xs : Pairs) → length (put key value xs) ≤ length xs + 1 → length (put key value (x ∷ xs)) ≤ length (x ∷ xs) + 1
-length-put_more key value x xs rest = go (byte_order key x.0) refl
-  where
-    go : (o : Ordering) → byte_order key x.0 ≡ o → length (put key value (x ∷ xs)) ≤ length (x ∷ xs) + 1
-    go Less e = rw e (omega arith)
-    go Equal e = rw e (omega arith)
-    go Greater e = rw e (omega arith)
-
-pub length-put : (key value : List ℕ) (xs : Pairs) → length (put key value xs) ≤ length xs + 1
-length-put key value [] = omega arith
-length-put key value (x ∷ xs) = length-put_more key value x xs (length-put key value xs)
-
 without-above : (key : List ℕ) (xs ys : Pairs) → above_all key xs ≡ true → without key (xs ++ ys) ≡ xs ++ without key ys
 without-above key [] ys above = refl
 without-above key (x ∷ xs) ys above = rw (above_first key x xs above) (ap (λ rest. x ∷ rest) (without-above key xs ys (above_rest key x xs above)))
@@ -185,15 +173,6 @@ put_home key value [] i d new home is = absurd home
 put_home key value (leaf ∷ leaves) zero d new home is = rw is (sym (put-below key value leaf (joined leaves) home))
 put_home key value (leaf ∷ leaves) (suc i) d new home is =
     ap (λ rest. leaf ++ rest) (put_home key value leaves i d new home.1 is) ∙ sym (put-above key value leaf (joined leaves) home.0)
-
-pub put_two : (key value : List ℕ) (leaves : List Pairs) (i : ℕ) (d left right : Pairs) → IsHome key leaves i → left ++ right ≡ put key value (get_or leaves i d) →
-    joined (set (insert leaves (suc i) right) i left) ≡ put key value (joined leaves)
-put_two key value [] i d left right home is = absurd home
-put_two key value (leaf ∷ leaves) zero d left right home is =
-    let regrouped : left ++ (right ++ joined leaves) ≡ (left ++ right) ++ joined leaves = simp append_assoc in
-    regrouped ∙ ap (λ front. front ++ joined leaves) is ∙ sym (put-below key value leaf (joined leaves) home)
-put_two key value (leaf ∷ leaves) (suc i) d left right home is =
-    ap (λ rest. leaf ++ rest) (put_two key value leaves i d left right home.1 is) ∙ sym (put-above key value leaf (joined leaves) home.0)
 
 pub without_home : (key : List ℕ) (leaves : List Pairs) (i : ℕ) (d new : Pairs) → IsHome key leaves i → new ≡ without key (get_or leaves i d) → joined (set leaves i new) ≡ without key (joined leaves)
 without_home key [] i d new home is = absurd home
@@ -231,34 +210,58 @@ pub has_pairs_some : (xs : Pairs) → 0 < length xs → has_pairs xs ≡ true
 has_pairs_some [] some = absurd (omega arith)
 has_pairs_some (x ∷ xs) some = refl
 
--- the place before the first leaf that starts above the key
+-- the place before the first leaf that starts above the key, or the first place
 
-module _ (key : List ℕ) (leaves : List Pairs) (rising : IsRising (joined leaves)) (filled : IsFilled leaves) (n : ℕ)
-    (low : AllWithin (λ leaf. starts_by key leaf ≡ true) leaves 0 n) (high : AllWithin (λ leaf. starts_by key leaf ≡ false) leaves n (length leaves)) (bound : n ≤ length leaves) where
-  pub home_some : (r : Option ℕ) → SomeIff r (1 ≤ n) (n - 1) → IfSome r (IsHome key leaves)
-  home_some None is = tt
-  home_some (Some i) is =
-      home_at key leaves i rising filled (omega arith) (λ j d le. low j d (omega arith) (omega arith)) (λ d some. high (suc i) d (omega arith) some)
+first_home : (key : List ℕ) (leaves : List Pairs) → below_all byte_order key (joined leaves) ≡ true → 0 < length leaves → IsHome key leaves 0
+first_home key [] below some = absurd (omega arith)
+first_home key (leaf ∷ leaves) below some = below_back key leaf (joined leaves) below
 
-  pub home_none : (r : Option ℕ) → SomeIff r (1 ≤ n) (n - 1) → IfNone r (below_all byte_order key (joined leaves) ≡ true)
-  home_none None is = below_leaves key leaves rising filled (λ d some. high 0 d (no_more n is) some)
-    where
-      no_more : (n : ℕ) → (1 ≤ n → ⊥) → n ≤ 0
-      no_more zero none = omega arith
-      no_more (suc n) none = absurd (none (omega arith))
-  home_none (Some i) is = tt
+pub home_found : (key : List ℕ) (leaves : List Pairs) → IsRising (joined leaves) → IsFilled leaves → (n : ℕ) → AllWithin (λ leaf. starts_by key leaf ≡ true) leaves 0 n →
+    AllWithin (λ leaf. starts_by key leaf ≡ false) leaves n (length leaves) → n ≤ length leaves → 0 < length leaves → IsHome key leaves (n - 1)
+home_found key leaves rising filled zero low high bound some =
+    first_home key leaves (below_leaves key leaves rising filled (λ d more. high 0 d (omega arith) more)) some
+home_found key leaves rising filled (suc n) low high bound some =
+    subst (IsHome key leaves) (omega arith)
+    (home_at key leaves n rising filled (omega arith) (λ j d le. low j d (omega arith) (omega arith)) (λ d more. high (suc n) d (omega arith) more))
 
 -- one leaf or two, with the pair put
-
-pub spliced_home : (key value : List ℕ) (leaves : List Pairs) (i : ℕ) (d left : Pairs) (next : Option Pairs) → IsHome key leaves i →
-    both left next ≡ put key value (get_or leaves i d) → joined (spliced leaves i left next) ≡ put key value (joined leaves)
-spliced_home key value leaves i d left None home is = put_home key value leaves i d left home is
-spliced_home key value leaves i d left (Some right) home is = rw add-one (put_two key value leaves i d left right home is)
 
 pub IsFilled-spliced : (leaves : List Pairs) (i : ℕ) (left : Pairs) (next : Option Pairs) → IsFilled leaves → both_have_pairs left next ≡ true → IsFilled (spliced leaves i left next)
 IsFilled-spliced leaves i left None filled some = IsFilled-set leaves i left filled some
 IsFilled-spliced leaves i left (Some right) filled some =
     IsFilled-set (insert leaves (i + 1) right) i left (IsFilled-insert leaves (i + 1) right filled (and_parts _ _ some).1) (and_parts _ _ some).0
+
+-- the leaf's own pairs, in one leaf or in two
+
+joined_set : (leaves : List Pairs) (i : ℕ) (left : Pairs) → left ≡ get_or leaves i [] → joined (set leaves i left) ≡ joined leaves
+joined_set [] i left same = refl
+joined_set (leaf ∷ leaves) zero left same = ap (λ first. first ++ joined leaves) same
+joined_set (leaf ∷ leaves) (suc i) left same = ap (λ rest. leaf ++ rest) (joined_set leaves i left same)
+
+joined_two : (leaves : List Pairs) (i : ℕ) (left right : Pairs) → i < length leaves → left ++ right ≡ get_or leaves i [] → joined (set (insert leaves (suc i) right) i left) ≡ joined leaves
+joined_two [] i left right in_range same = absurd (omega arith)
+joined_two (leaf ∷ leaves) zero left right in_range same =
+    let regrouped : left ++ (right ++ joined leaves) ≡ (left ++ right) ++ joined leaves = simp append_assoc in
+    regrouped ∙ ap (λ first. first ++ joined leaves) same
+joined_two (leaf ∷ leaves) (suc i) left right in_range same = ap (λ rest. leaf ++ rest) (joined_two leaves i left right (omega arith) same)
+
+pub joined_spliced : (leaves : List Pairs) (i : ℕ) (left : Pairs) (next : Option Pairs) → i < length leaves → both left next ≡ get_or leaves i [] → joined (spliced leaves i left next) ≡ joined leaves
+joined_spliced leaves i left None in_range same = joined_set leaves i left same
+joined_spliced leaves i left (Some right) in_range same = rw add-one (joined_two leaves i left right in_range same)
+
+length_two : (leaves : List Pairs) (i : ℕ) (left right : Pairs) → i < length leaves → length (set (insert leaves (suc i) right) i left) ≡ length leaves + 1
+length_two [] i left right in_range = absurd (omega arith)
+length_two (leaf ∷ leaves) zero left right in_range = omega arith
+length_two (leaf ∷ leaves) (suc i) left right in_range = omega (arith, length_two leaves i left right (omega arith))
+
+length_one : (leaves : List Pairs) (i : ℕ) (left : Pairs) → length (set leaves i left) ≡ length leaves
+length_one [] i left = refl
+length_one (leaf ∷ leaves) zero left = refl
+length_one (leaf ∷ leaves) (suc i) left = ap suc (length_one leaves i left)
+
+pub length-spliced : (leaves : List Pairs) (i : ℕ) (left : Pairs) (next : Option Pairs) → i < length leaves → length (spliced leaves i left next) ≤ length leaves + 1
+length-spliced leaves i left None in_range = omega (arith, length_one leaves i left)
+length-spliced leaves i left (Some right) in_range = rw add-one (omega (arith, length_two leaves i left right in_range))
 
 pub no_pairs : (xs : Pairs) → not (has_pairs xs) ≡ true → xs ≡ []
 no_pairs [] none = refl
@@ -274,3 +277,45 @@ joined-remove_set [] zero = refl
 joined-remove_set [] (suc i) = refl
 joined-remove_set (leaf ∷ leaves) zero = refl
 joined-remove_set (leaf ∷ leaves) (suc i) = ap (λ rest. leaf ++ rest) (joined-remove_set leaves i)
+
+pub filled_at : (leaves : List Pairs) (i : ℕ) (d : Pairs) → IsFilled leaves → i < length leaves → has_pairs (get_or leaves i d) ≡ true
+filled_at [] i d filled in_range = absurd (omega arith)
+filled_at (leaf ∷ leaves) zero d filled in_range = filled.0
+filled_at (leaf ∷ leaves) (suc i) d filled in_range = filled_at leaves i d filled.1 (omega arith)
+
+-- a leaf more at the end
+
+pub joined-snoc : (leaves : List Pairs) (leaf : Pairs) → joined (leaves ++ leaf ∷ []) ≡ joined leaves ++ leaf
+joined-snoc [] leaf = append-nil leaf
+joined-snoc (first ∷ leaves) leaf =
+    let regrouped : first ++ (joined leaves ++ leaf) ≡ (first ++ joined leaves) ++ leaf = simp append_assoc in
+    ap (λ rest. first ++ rest) (joined-snoc leaves leaf) ∙ regrouped
+
+pub IsFilled-snoc : (leaves : List Pairs) (leaf : Pairs) → IsFilled leaves → has_pairs leaf ≡ true → IsFilled (leaves ++ leaf ∷ [])
+IsFilled-snoc [] leaf filled some = (some, tt)
+IsFilled-snoc (first ∷ leaves) leaf filled some = (filled.0, IsFilled-snoc leaves leaf filled.1 some)
+
+pub remove-set : (leaves : List Pairs) (i : ℕ) (new : Pairs) → remove (set leaves i new) i ≡ remove leaves i
+remove-set [] zero new = refl
+remove-set [] (suc i) new = refl
+remove-set (leaf ∷ leaves) zero new = refl
+remove-set (leaf ∷ leaves) (suc i) new = ap (λ rest. leaf ∷ rest) (remove-set leaves i new)
+
+pub filled_from_test : (xs ys : Pairs) → (length ys == 0) ≡ false → ys ≡ xs → has_pairs xs ≡ true
+filled_from_test xs ys test same = subst (λ zs. has_pairs zs ≡ true) same (go ys test)
+  where
+    go : (ys : Pairs) → (length ys == 0) ≡ false → has_pairs ys ≡ true
+    go [] test = absurd (true≢false test)
+    go (y ∷ ys) test = refl
+
+pub empty_from_test : (xs ys : Pairs) → (length ys == 0) ≡ true → ys ≡ xs → xs ≡ []
+empty_from_test xs ys test same = sym same ∙ go ys (exact_unsigned_eq (length ys) 0 test)
+  where
+    go : (ys : Pairs) → length ys ≡ 0 → ys ≡ []
+    go [] none = refl
+    go (y ∷ ys) none = absurd (omega arith)
+
+pub only_home : (key : List ℕ) (leaves : List Pairs) → length leaves ≡ 1 → IsHome key leaves 0
+only_home key [] one = absurd (omega arith)
+only_home key (leaf ∷ []) one = refl
+only_home key (leaf ∷ (next ∷ leaves)) one = absurd (omega arith)

@@ -1,5 +1,9 @@
 pub mod Order
+pub mod Words
 pub mod Place
 pub mod Found
-pub mod Kept
 pub mod Homes
+pub mod Kept
+pub mod Each
+pub mod Over
+pub mod Merged

@@ -1,12 +1,11 @@
 -- What stands at a key's place, and what an edit there makes.
-use Rattle.std.proofs.Common.{◌≡◌, ℕ, zero, suc, ◌+◌, ◌<◌, ◌≤◌, Bool, true, false, List, [], ◌∷◌, ◌++◌, ◌&&◌, length, get_or, set, refl, sym, ap, subst, ◌∙◌, Some, None, arith}
-use Rattle.std.specs.declared.cmp.Ordering.TheVariants.{Less, Equal, Greater}
+use Rattle.std.proofs.Common.{◌≡◌, ℕ, zero, suc, ◌<◌, ◌≤◌, true, List, [], ◌∷◌, length, get_or, set, refl, sym, ap, subst, ◌∙◌, Some, None, arith}
+use Rattle.std.specs.declared.cmp.Ordering.TheVariants.{Less}
 use Rattle.std.specs.List.{insert, remove}
-use Rattle.std.specs.Ordering.{is_lt}
 use Rattle.std.specs.FinMap.Entries.{below_all}
-use Rattle.std.proofs.lemmas.Bool.{and_parts, and_from}
+use Rattle.std.proofs.lemmas.Bool.{and_parts}
 use Rattle.chain_map.specs.Pairs.{Pairs, byte_order, IsRising, find, put, without}
-use Rattle.chain_map.specs.Place.{IsAt, IsGap}
+use Rattle.chain_map.specs.Place.{IsAt, IsGap, pair_at}
 use Rattle.chain_map.proofs.Order.{same_key, less_from_test}
 
 -- a key is less than the first of those that it is below
@@ -70,3 +69,13 @@ insert_gap key value [] zero gap = refl
 insert_gap key value (pair ∷ pairs) zero gap = rw (below_first key pair pairs gap) refl
 insert_gap key value [] (suc place) gap = absurd gap
 insert_gap key value (pair ∷ pairs) (suc place) gap = rw gap.0 (ap (λ rest. pair ∷ rest) (insert_gap key value pairs place gap.1))
+
+-- ---- the pair at a place, as a read of it says
+
+pub pair_at_from : (xs ys : Pairs) (at : ℕ) (pair : List ℕ × List ℕ) → xs ≡ ys → at < length ys → pair ≡ get_or xs at pair → pair ≡ pair_at ys at
+pair_at_from xs ys at pair same in_range is = is ∙ ap (λ pairs. get_or pairs at pair) same ∙ default ys at pair in_range
+  where
+    default : (ys : Pairs) (at : ℕ) (pair : List ℕ × List ℕ) → at < length ys → get_or ys at pair ≡ get_or ys at ([], [])
+    default [] at pair in_range = absurd (omega arith)
+    default (y ∷ ys) zero pair in_range = refl
+    default (y ∷ ys) (suc at) pair in_range = default ys at pair (omega arith)

@@ -1,15 +1,10 @@
 -- How the pairs of a chain are kept in leaves.
-use Rattle.std.specs.Prelude.{ℕ, zero, suc, ◌+◌, slice_set, Bool, true, false, cond, ◌&&◌, IsTrue, List, [], ◌∷◌, ◌++◌, Option, Some, None}
+use Rattle.std.specs.Prelude.{ℕ, zero, suc, ◌+◌, slice_set, slice_index_or, Bool, true, false, ◌&&◌, IsTrue, List, [], ◌∷◌, ◌++◌, Option, Some, None}
 use Rattle.std.specs.Ordering.{is_le, is_gt}
 use Rattle.std.specs.List.{insert}
 use Rattle.std.specs.FinMap.Entries.{below_all}
 use Rattle.chain_map.specs.Pairs.{Pairs, byte_order}
-
--- the pairs whose flags are set
-abbrev pub kept : Pairs → List Bool → Pairs
-kept [] flags = []
-kept (pair ∷ pairs) [] = []
-kept (pair ∷ pairs) (flag ∷ flags) = cond flag (pair ∷ kept pairs flags) (kept pairs flags)
+use Rattle.chain_map.specs.Place.{IsAt}
 
 -- the leaves' pairs, one leaf after another
 abbrev pub joined : List Pairs → Pairs
@@ -54,3 +49,7 @@ IsHome key (leaf ∷ leaves) (suc place) = IsTrue (above_all key leaf) × IsHome
 abbrev pub spliced : List Pairs → ℕ → Pairs → Option Pairs → List Pairs
 spliced leaves place left None = slice_set leaves place left
 spliced leaves place left (Some right) = slice_set (insert leaves (place + 1) right) place left
+
+-- the key's pair is at this place of this leaf
+abbrev pub IsSpot : List ℕ → List Pairs → ℕ → ℕ → Type 0
+IsSpot key leaves leaf place = IsHome key leaves leaf × IsAt key (slice_index_or leaves leaf []) place

@@ -1,6 +1,6 @@
 -- Where a key stands in a chain, or would stand.
-use Rattle.std.specs.Prelude.{◌≡◌, ℕ, suc, zero, IsTrue, List, [], ◌∷◌}
-use Rattle.std.specs.declared.cmp.Ordering.TheVariants.{Less, Equal, Greater}
+use Rattle.std.specs.Prelude.{◌≡◌, ℕ, suc, zero, IsTrue, List, [], ◌∷◌, slice_index_or}
+use Rattle.std.specs.declared.cmp.Ordering.TheVariants.{Equal, Greater}
 use Rattle.std.specs.FinMap.Entries.{below_all}
 use Rattle.chain_map.specs.Pairs.{Pairs, byte_order}
 
@@ -15,3 +15,7 @@ abbrev pub IsGap : List ℕ → Pairs → ℕ → Type 0
 IsGap key pairs zero = IsTrue (below_all byte_order key pairs)
 IsGap key [] (suc place) = ⊥
 IsGap key (pair ∷ pairs) (suc place) = (byte_order key pair.0 ≡ Greater) × IsGap key pairs place
+
+-- the pair at this place
+abbrev pub pair_at : Pairs → ℕ → List ℕ × List ℕ
+pair_at pairs place = slice_index_or pairs place ([], [])

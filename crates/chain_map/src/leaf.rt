@@ -1,138 +1,209 @@
-ghost use Rattle.std.specs.Prelude.{◌≡◌, ◌<◌, ◌≤◌, [], IfOk, IfSome, OnOk, OnErr, IsTrue, not, true, is_some, length, replicate};
+ghost use Rattle.std.specs.Prelude.{◌≡◌, ◌<◌, ◌≤◌, [], IfOk, IfSome, IfErr, OnOk, OnErr, IsTrue, not, length};
 ghost use Rattle.std.specs.Option.{option_copied};
+ghost use Rattle.std.specs.List.{remove};
 ghost use Rattle.std.specs.Iterator.{YieldsFirstRef, item_count};
-ghost use Rattle.chain_map.specs.Pairs.{IsRising, find, put, without};
-ghost use Rattle.chain_map.specs.Leaves.{kept, has_pairs, both, both_have_pairs, starts_by};
+ghost use Rattle.chain_map.specs.Pairs.{IsRising, put};
+ghost use Rattle.chain_map.specs.Leaves.{has_pairs, both, both_have_pairs, starts_by};
+ghost use Rattle.chain_map.specs.Marks.{kept};
+ghost use Rattle.chain_map.specs.Place.{IsAt, IsGap, pair_at};
 
+use crate::marks::is_gone;
 use crate::pair::Pair;
 use crate::sorted::Sorted;
 use sid_core::OutOfMemory;
 use std::alloc::{AllocError, Global};
 use std::marker::Model;
+use std::mem;
 use std::sync::Arc;
 
-/// Up to 64 pairs, which several chains may share, and which of them this leaf still has.
+/// The most pairs of a leaf: a mark has a bit for each.
+pub(crate) const MOST: usize = 64;
+
+/// How many pairs are put over the leaves before a `put` merges them.
+pub(crate) const LATEST: usize = 8;
+
+/// Up to 64 pairs, which several chains may share.
 #[derive(Drop)]
 pub(crate) struct Leaf {
     pairs: Arc<Sorted, Global>,
-    live: [bool; 64],
 }
 
 impl Model for Leaf {
     ghost use Rattle.std.specs.Prelude.{◌≤◌, length};
     ghost use Rattle.std.specs.Arc.{arc_value};
     ghost use Rattle.chain_map.specs.Pairs.{Pairs, IsRising};
-    ghost use Rattle.chain_map.specs.Leaves.{kept};
 
     ghost Value = { Pairs };
 
-    ghost view = { λ l. kept (arc_value l.pairs) l.live };
+    ghost view = { λ l. arc_value l.pairs };
 
-    ghost invariant = { λ l. (length (arc_value l.pairs) ≤ 64) × IsRising (arc_value l.pairs) };
+    ghost invariant = { λ l. length (arc_value l.pairs) ≤ 64 };
 }
 
 impl Leaf {
-    fn new(alloc: Global, pairs: Sorted) -> Result<Leaf, OutOfMemory>
+    pub(crate) fn new(alloc: Global, pairs: Sorted) -> Result<Leaf, OutOfMemory>
         requires { length pairs ≤ 64 }
         ensures { IfOk result (λ leaf. leaf ≡ pairs) }
     {
-        let _rising = pairs.as_slice();
         Ok(Leaf {
             pairs: Arc::new(alloc, pairs)?,
-            live: all_live(),
         })
     }
 
-    /// The pair alone.
-    pub(crate) fn of(alloc: Global, key: Vec<u8>, value: Vec<u8>) -> Result<Leaf, OutOfMemory>
-        ensures { IfOk result (λ leaf. leaf ≡ put key.items value.items []) }
+    /// A leaf of all pairs of a list. Leaves them there where there is no memory.
+    pub(crate) fn of_all(alloc: Global, pairs: &mut Sorted) -> Result<Leaf, OutOfMemory>
+        requires { length pairs.old ≤ 64 }
+        ensures rising { IsRising pairs.old }
+        ensures leaf { IfOk result (λ leaf. leaf ≡ pairs.old) }
+        ensures ok { OnOk result (pairs.new ≡ []) }
+        ensures err { OnErr result (pairs.new ≡ pairs.old) }
     {
-        let mut pairs = Sorted::from_vec(Vec::new(alloc));
-        pairs.put(key, value)?;
-        Leaf::new(alloc, pairs)
-    }
-
-    pub(crate) fn find(&self, key: &[u8]) -> Option<&[u8]>
-        ensures { option_copied result ≡ find key.now self.now }
-    {
-        match self.pairs.search(key) {
-            Ok(at) => {
-                if self.live[at] {
-                    Some(self.pairs.as_slice()[at].value())
-                } else {
-                    None
-                }
+        let _rising = pairs.as_slice();
+        match Arc::new(alloc, mem::replace(pairs, Sorted::new(alloc))) {
+            Ok(pairs) => Ok(Leaf { pairs }),
+            Err(failed) => {
+                *pairs = failed.value;
+                Err(OutOfMemory)
             }
-            Err(_) => None,
         }
     }
 
-    pub(crate) fn remove(&mut self, key: &[u8]) -> bool
-        ensures found { result ≡ is_some (find key.now self.old) }
-        ensures others { self.new ≡ without key.now self.old }
+    pub(crate) fn as_slice(&self) -> &[Pair]
+        ensures pairs { result.now ≡ self.now }
+        ensures rising { IsRising self.now }
+        ensures few { length self.now ≤ 64 }
     {
-        match self.pairs.search(key) {
-            Ok(at) => {
-                let found = self.live[at];
-                self.live[at] = false;
-                found
-            }
-            Err(_) => false,
-        }
+        self.pairs.as_slice()
     }
 
-    /// A leaf with the pair put among this leaf's, or two where one would be too long.
-    pub(crate) fn with(
-        &self,
-        alloc: Global,
-        key: Vec<u8>,
-        value: Vec<u8>,
-    ) -> Result<(Leaf, Option<Leaf>), OutOfMemory>
-        ensures pairs { IfOk result (λ leaves. both leaves.0 leaves.1 ≡ put key.items value.items self.now) }
-        ensures filled { IfOk result (λ leaves. IsTrue (both_have_pairs leaves.0 leaves.1)) }
+    // Where the key's pair is, or where it would go.
+    pub(crate) fn search(&self, key: &[u8]) -> Result<usize, usize>
+        ensures found { IfOk result (IsAt key.now self.now) }
+        ensures absent { IfErr result (IsGap key.now self.now) }
+        ensures few { length self.now ≤ 64 }
     {
-        let mut pairs = self.gathered(alloc)?;
-        pairs.put(key, value)?;
-        in_leaves(alloc, pairs)
-    }
-
-    // The leaf's pairs, and no others.
-    fn gathered(&self, alloc: Global) -> Result<Sorted, OutOfMemory>
-        ensures pairs { IfOk result (λ pairs. pairs ≡ self.now) }
-        ensures few { IfOk result (λ pairs. length pairs ≤ 64) }
-    {
-        let mut pairs = Vec::with_capacity(alloc, 65)?;
-        for pair in self.pairs() {
-            pairs.push(pair.clone()?)?;
-        }
-        Ok(Sorted::from_vec(pairs))
+        self.pairs.search(key)
     }
 
     /// Whether the first key is this one or less.
     pub(crate) fn starts_by(&self, key: &[u8]) -> bool
         ensures { result ≡ starts_by key.now self.now }
     {
-        match self.pairs().next() {
+        match self.pairs.as_slice().first() {
             Some(first) => first.cmp_key(key).is_le(),
             None => false,
         }
     }
 
-    pub(crate) fn is_empty(&self) -> bool
-        ensures { result ≡ not (has_pairs self.now) }
+    /// Moves the pair at this place of a list here, where no other chain has the leaf and there is room. Takes no memory.
+    /// Says whether it did.
+    pub(crate) fn take_in(&mut self, other: &mut Sorted, at: usize) -> bool
+        requires { at < length other.old }
+        ensures moved { IsTrue result → self.new ≡ put (pair_at other.old at).0 (pair_at other.old at).1 self.old }
+        ensures taken { IsTrue result → other.new ≡ remove other.old at }
+        ensures left { IsTrue (not result) → self.new ≡ self.old }
+        ensures kept { IsTrue (not result) → other.new ≡ other.old }
     {
-        self.pairs().next().is_none()
+        match Arc::get_mut(&mut self.pairs) {
+            Some(pairs) => pairs.take_in(MOST, other, at),
+            None => false,
+        }
     }
 
-    pub(crate) fn pairs(&self) -> LeafPairs<'_>
-        ensures pairs { result ≡ self.now }
+    /// Makes room for a pair where no other chain has the leaf and it isn't full. Says whether it did.
+    pub(crate) fn grow(&mut self) -> bool
+        ensures { self.new ≡ self.old }
+    {
+        match Arc::get_mut(&mut self.pairs) {
+            Some(pairs) => pairs.grow(MOST),
+            None => false,
+        }
+    }
+
+    /// Drops the pairs whose bits are set, where no other chain has the leaf. Takes no memory. Says whether it did.
+    pub(crate) fn sweep(&mut self, mark: u64) -> bool
+        ensures swept { IsTrue result → self.new ≡ kept mark 0 self.old }
+        ensures left { IsTrue (not result) → self.new ≡ self.old }
+    {
+        match Arc::get_mut(&mut self.pairs) {
+            Some(pairs) => {
+                pairs.sweep(mark);
+                true
+            }
+            None => false,
+        }
+    }
+
+    // Copies of the pairs whose bits aren't set, in a list with this room.
+    fn copied(&self, alloc: Global, mark: u64, room: usize) -> Result<Sorted, OutOfMemory>
+        ensures pairs { IfOk result (λ pairs. pairs ≡ kept mark 0 self.now) }
+        ensures few { IfOk result (λ pairs. length pairs ≤ 64) }
+    {
+        let mut pairs = Vec::with_capacity(alloc, room)?;
+        for pair in self.pairs(mark) {
+            pairs.push(pair.clone()?)?;
+        }
+        Ok(Sorted::from_vec(pairs))
+    }
+
+    /// A leaf of the pairs whose bits aren't set: this one where none is, else one of copies.
+    pub(crate) fn without_marks(&self, alloc: Global, mark: u64) -> Result<Leaf, OutOfMemory>
+        ensures { IfOk result (λ leaf. leaf ≡ kept mark 0 self.now) }
+    {
+        if mark == 0 {
+            return Ok(self.clone()?);
+        }
+        Leaf::new(alloc, self.copied(alloc, mark, MOST)?)
+    }
+
+    /// Copies of the pairs, with room for one with this key: in one leaf, or in two where the leaf is full and lacks the
+    /// key. The leaf may be the chain's first and its last.
+    pub(crate) fn opened(
+        &self,
+        alloc: Global,
+        key: &[u8],
+        is_first: bool,
+        is_last: bool,
+    ) -> Result<(Leaf, Option<Leaf>), OutOfMemory>
+        requires { IsTrue (has_pairs self.now) }
+        ensures pairs { IfOk result (λ leaves. both leaves.0 leaves.1 ≡ self.now) }
+        ensures filled { IfOk result (λ leaves. IsTrue (both_have_pairs leaves.0 leaves.1)) }
+    {
+        let len = self.as_slice().len();
+        let mut pairs = self.copied(alloc, 0, MOST.min(2 * len + LATEST))?;
+        if len == MOST
+            && let Err(place) = self.search(key)
+        {
+            let back = pairs.split_off(cut(place, is_first, is_last))?;
+            return Ok((Leaf::new(alloc, pairs)?, Some(Leaf::new(alloc, back)?)));
+        }
+        Ok((Leaf::new(alloc, pairs)?, None))
+    }
+
+    pub(crate) fn pairs(&self, mark: u64) -> LeafPairs<'_>
+        ensures pairs { result ≡ kept mark 0 self.now }
         ensures rising { IsRising self.now }
         ensures few { length self.now ≤ 64 }
     {
         LeafPairs {
             pairs: self.pairs.as_slice(),
-            live: self.live.as_slice(),
+            mark,
+            place: 0,
         }
+    }
+}
+
+// Where a full leaf is split for a key that goes to this place. At an end of the chain only the pairs behind the key go,
+// or those before it, and one at least, so that keys that rise or fall leave full leaves behind.
+fn cut(place: usize, is_first: bool, is_last: bool) -> usize
+    ensures { (0 < result) × (result < 64) }
+{
+    if is_last && MOST - LATEST <= place {
+        place.min(MOST - 1)
+    } else if is_first && place <= LATEST {
+        place.max(1)
+    } else {
+        MOST / 2
     }
 }
 
@@ -142,46 +213,28 @@ impl Clone for Leaf {
     fn clone(&self) -> Result<Leaf, AllocError> {
         Ok(Leaf {
             pairs: self.pairs.clone()?,
-            live: self.live,
         })
     }
 }
 
-fn all_live() -> [bool; 64]
-    ensures { result ≡ replicate 64 true }
-{
-    [true; 64]
-}
-
-// The pairs in one leaf, or in two where one would be too long.
-fn in_leaves(alloc: Global, pairs: Sorted) -> Result<(Leaf, Option<Leaf>), OutOfMemory>
-    requires some { IsTrue (has_pairs pairs) }
-    requires few { length pairs ≤ 65 }
-    ensures pairs { IfOk result (λ leaves. both leaves.0 leaves.1 ≡ pairs) }
-    ensures filled { IfOk result (λ leaves. IsTrue (both_have_pairs leaves.0 leaves.1)) }
-{
-    let mut pairs = pairs;
-    if pairs.as_slice().len() <= 64 {
-        return Ok((Leaf::new(alloc, pairs)?, None));
-    }
-    let back = pairs.split_off(32)?;
-    Ok((Leaf::new(alloc, pairs)?, Some(Leaf::new(alloc, back)?)))
-}
-
-/// The pairs of a leaf that are left.
+/// The pairs of a leaf that are left, but for those that are marked.
 #[derive(Drop)]
 pub(crate) struct LeafPairs<'a> {
     pairs: &'a [Pair],
-    live: &'a [bool],
+    mark: u64,
+    place: usize,
 }
 
 impl<'a> Model for LeafPairs<'a> {
+    ghost use Rattle.std.specs.Prelude.{◌+◌, ◌≤◌, length};
     ghost use Rattle.chain_map.specs.Pairs.{Pairs};
-    ghost use Rattle.chain_map.specs.Leaves.{kept};
+    ghost use Rattle.chain_map.specs.Marks.{kept};
 
     ghost Value = { Pairs };
 
-    ghost view = { λ p. kept p.pairs.now p.live.now };
+    ghost view = { λ p. kept p.mark p.place p.pairs.now };
+
+    ghost invariant = { λ p. p.place + length p.pairs.now ≤ 64 };
 }
 
 impl<'a> LeafPairs<'a> {
@@ -190,7 +243,8 @@ impl<'a> LeafPairs<'a> {
     {
         LeafPairs {
             pairs: &[],
-            live: &[],
+            mark: 0,
+            place: 0,
         }
     }
 }
@@ -203,12 +257,11 @@ impl<'a> Iterator for LeafPairs<'a> {
     ghost remaining = { item_count (λ rest. rest) };
 
     fn next(&mut self) -> Option<&'a Pair> {
-        while let Some((pair, pairs)) = self.pairs.split_first()
-            && let Some((live, flags)) = self.live.split_first()
-        {
+        while let Some((pair, pairs)) = self.pairs.split_first() {
+            let place = self.place;
             self.pairs = pairs;
-            self.live = flags;
-            if *live {
+            self.place = place + 1;
+            if !is_gone(self.mark, place) {
                 return Some(pair);
             }
         }

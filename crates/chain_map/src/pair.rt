@@ -1,60 +1,57 @@
-ghost use Rattle.std.specs.Prelude.{◌≡◌, IfOk};
+ghost use Rattle.std.specs.Prelude.{◌≡◌, ◌≤◌, IfOk, length, take, drop};
 ghost use Rattle.chain_map.specs.Pairs.{byte_order};
 
+use crate::compare::order;
 use sid_core::OutOfMemory;
-use std::alloc::{AllocError, Global};
+use std::alloc::AllocError;
 use std::cmp::Ordering;
 use std::marker::Model;
-use std::sync::Arc;
 
-#[derive(Drop)]
-struct PairBytes {
-    key: Vec<u8>,
-    value: Vec<u8>,
-}
-
-/// A key and its value. Clones share the bytes.
+/// A key and its value, in one block.
 #[derive(Drop)]
 pub(crate) struct Pair {
-    bytes: Arc<PairBytes, Global>,
+    bytes: Vec<u8>,
+    key_len: usize,
 }
 
 impl Model for Pair {
-    ghost use Rattle.std.specs.Prelude.{ℕ, List};
-    ghost use Rattle.std.specs.Arc.{arc_value};
+    ghost use Rattle.std.specs.Prelude.{ℕ, List, take, drop, ◌≤◌, length};
 
     ghost Value = { List ℕ × List ℕ };
 
-    ghost view = { λ p. ((arc_value p.bytes).key.items, (arc_value p.bytes).value.items) };
+    ghost view = { λ p. (take p.key_len p.bytes.items, drop p.key_len p.bytes.items) };
+
+    ghost invariant = { λ p. p.key_len ≤ length p.bytes.items };
 }
 
 impl Pair {
-    pub(crate) fn new(key: Vec<u8>, value: Vec<u8>) -> Result<Pair, OutOfMemory>
-        ensures { IfOk result (λ pair. pair ≡ (key.items, value.items)) }
+    /// The key's bytes, and the value's behind them.
+    pub(crate) fn packed(bytes: Vec<u8>, key_len: usize) -> Pair
+        requires { key_len ≤ length bytes.items }
+        ensures { result ≡ (take key_len bytes.items, drop key_len bytes.items) }
     {
-        let alloc = *key.allocator();
-        Ok(Pair {
-            bytes: Arc::new(alloc, PairBytes { key, value })?,
-        })
+        Pair { bytes, key_len }
     }
 
     pub(crate) fn key(&self) -> &[u8]
         ensures { result.now ≡ self.now.0 }
     {
-        self.bytes.key.as_slice()
+        let (key, _) = self.bytes.as_slice().split_at(self.key_len);
+        key
     }
 
     /// How the key stands to another.
     pub(crate) fn cmp_key(&self, key: &[u8]) -> Ordering
         ensures { result ≡ byte_order self.now.0 key.now }
     {
-        self.key().cmp(&key)
+        order(self.key(), key)
     }
 
     pub(crate) fn value(&self) -> &[u8]
         ensures { result.now ≡ self.now.1 }
     {
-        self.bytes.value.as_slice()
+        let (_, value) = self.bytes.as_slice().split_at(self.key_len);
+        value
     }
 }
 
@@ -62,8 +59,10 @@ impl Clone for Pair {
     ghost is_clone = { λ pair copy. copy ≡ pair };
 
     fn clone(&self) -> Result<Pair, AllocError> {
+        let bytes = Vec::from_slice(*self.bytes.allocator(), self.bytes.as_slice())?;
         Ok(Pair {
-            bytes: self.bytes.clone()?,
+            bytes,
+            key_len: self.key_len,
         })
     }
 }

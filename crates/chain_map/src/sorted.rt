@@ -1,10 +1,18 @@
-ghost use Rattle.std.specs.Prelude.{◌≡◌, ◌<◌, ◌≤◌, IfOk, IfErr, OnOk, OnErr, length, take, drop, slice_index_or};
-ghost use Rattle.chain_map.specs.Pairs.{IsRising, put};
-ghost use Rattle.chain_map.specs.Place.{IsAt, IsGap};
+ghost use Rattle.std.specs.Prelude.{◌≡◌, ◌<◌, ◌≤◌, ◌-◌, [], IfOk, IfErr, OnOk, OnErr, IsTrue, not, is_some, length, take, drop};
+ghost use Rattle.std.specs.Option.{option_copied};
+ghost use Rattle.std.specs.List.{remove};
+ghost use Rattle.chain_map.specs.Pairs.{IsRising, find, put, without};
+ghost use Rattle.chain_map.specs.Place.{IsAt, IsGap, pair_at};
+ghost use Rattle.chain_map.specs.Marks.{kept};
 
+use crate::marks::is_gone;
 use crate::pair::Pair;
 use sid_core::OutOfMemory;
+use std::alloc::Global;
 use std::marker::Model;
+
+/// The room that a list of pairs gets beyond its pairs where it is made anew.
+const ROOM: usize = 8;
 
 /// Pairs in the order of their keys.
 #[derive(Drop)]
@@ -30,11 +38,38 @@ impl Sorted {
         Sorted { pairs }
     }
 
+    /// No pairs. Takes no memory.
+    pub(crate) fn new(alloc: Global) -> Sorted
+        ensures { result ≡ [] }
+    {
+        Sorted {
+            pairs: Vec::new(alloc),
+        }
+    }
+
+    pub(crate) fn copy(&self) -> Result<Sorted, OutOfMemory>
+        ensures { IfOk result (λ copy. copy ≡ self.now) }
+    {
+        Ok(Sorted {
+            pairs: self.pairs.clone()?,
+        })
+    }
+
+    pub(crate) fn allocator(&self) -> Global {
+        *self.pairs.allocator()
+    }
+
     pub(crate) fn as_slice(&self) -> &[Pair]
         ensures pairs { result.now ≡ self.now }
         ensures rising { IsRising self.now }
     {
         self.pairs.as_slice()
+    }
+
+    pub(crate) fn len(&self) -> usize
+        ensures { result ≡ length self.now }
+    {
+        self.pairs.len()
     }
 
     // Where the key's pair is, or where it would go.
@@ -45,26 +80,100 @@ impl Sorted {
         self.pairs.binary_search_by(|pair| pair.cmp_key(key))
     }
 
-    pub(crate) fn put(&mut self, key: Vec<u8>, value: Vec<u8>) -> Result<(), OutOfMemory>
-        ensures { OnOk result (self.new ≡ put key.items value.items self.old) }
+    pub(crate) fn find(&self, key: &[u8]) -> Option<&[u8]>
+        ensures { option_copied result ≡ find key.now self.now }
     {
-        let place = self.search(key.as_slice());
-        let pair = Pair::new(key, value)?;
-        match place {
+        match self.search(key) {
+            Ok(at) => Some(self.pairs[at].value()),
+            Err(_) => None,
+        }
+    }
+
+    pub(crate) fn put(&mut self, pair: Pair) -> Result<(), OutOfMemory>
+        ensures ok { OnOk result (self.new ≡ put pair.0 pair.1 self.old) }
+        ensures err { OnErr result (self.new ≡ self.old) }
+    {
+        match self.search(pair.key()) {
             Ok(at) => self.pairs[at] = pair,
             Err(at) => self.pairs.insert(at, pair)?,
         }
         Ok(())
     }
 
-    // Takes the pairs from this place on out.
+    pub(crate) fn remove(&mut self, key: &[u8]) -> bool
+        ensures found { result ≡ is_some (find key.now self.old) }
+        ensures others { self.new ≡ without key.now self.old }
+    {
+        match self.search(key) {
+            Ok(at) => {
+                self.pairs.remove(at);
+                true
+            }
+            Err(_) => false,
+        }
+    }
+
+    /// Moves the pair at this place of another list here, where that takes no memory and makes this one no longer than
+    /// `most`. Says whether it did.
+    pub(crate) fn take_in(&mut self, most: usize, other: &mut Sorted, at: usize) -> bool
+        requires { at < length other.old }
+        ensures moved { IsTrue result → self.new ≡ put (pair_at other.old at).0 (pair_at other.old at).1 self.old }
+        ensures taken { IsTrue result → other.new ≡ remove other.old at }
+        ensures left { IsTrue (not result) → self.new ≡ self.old }
+        ensures kept { IsTrue (not result) → other.new ≡ other.old }
+        ensures few { length self.old ≤ most → length self.new ≤ most }
+    {
+        match self.search(other.pairs[at].key()) {
+            Ok(place) => {
+                self.pairs[place] = other.pairs.remove(at);
+                true
+            }
+            Err(place) => {
+                let len = self.pairs.len();
+                if len < most && len < self.pairs.capacity() {
+                    let pair = other.pairs.remove(at);
+                    self.pairs.insert(place, pair).is_ok()
+                } else {
+                    false
+                }
+            }
+        }
+    }
+
+    /// Makes room for as many pairs again, within `most`, and says whether there is room for one.
+    pub(crate) fn grow(&mut self, most: usize) -> bool
+        ensures { self.new ≡ self.old }
+    {
+        let len = self.pairs.len();
+        len < most && self.pairs.reserve_exact((most - len).min(len)).is_ok()
+    }
+
+    /// Drops the pairs whose bits are set. Takes no memory.
+    pub(crate) fn sweep(&mut self, mark: u64)
+        requires { length self.old ≤ 64 }
+        ensures kept { self.new ≡ kept mark 0 self.old }
+        ensures fewer { length self.new ≤ length self.old }
+    {
+        let mut at = self.pairs.len();
+        while 0 < at {
+            at -= 1;
+            if is_gone(mark, at) {
+                self.pairs.remove(at);
+            }
+        }
+    }
+
+    // Takes the pairs from this place on out, into a list with room for more.
     pub(crate) fn split_off(&mut self, at: usize) -> Result<Sorted, OutOfMemory>
         requires { at ≤ length self.old }
         ensures front { OnOk result (self.new ≡ take at self.old) }
         ensures back { IfOk result (λ back. back ≡ drop at self.old) }
     {
-        Ok(Sorted {
-            pairs: self.pairs.split_off(at)?,
-        })
+        let mut pairs = self.pairs.split_off(at)?;
+        // without the room the pairs that come are put over the chain for longer
+        match pairs.reserve_exact(ROOM) {
+            Ok(()) | Err(_) => {}
+        }
+        Ok(Sorted { pairs })
     }
 }

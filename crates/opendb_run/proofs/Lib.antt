@@ -1,5 +1,8 @@
 pub mod Appending
 pub mod Taking
+pub mod Ordering
+pub mod Turning
+pub mod Living
 pub mod Playing
 pub mod Pieces
-pub mod Spelling
+pub mod Ending

@@ -3,5 +3,7 @@ pub mod Memory
 pub mod Output
 pub mod Status
 pub mod Words
+pub mod Order
 pub mod Play
+pub mod Playing
 pub mod Run

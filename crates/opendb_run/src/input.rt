@@ -1,12 +1,11 @@
 ghost use Rattle.std.specs.Prelude.{◌≡◌, ◌≤◌, length, IfOk, IfErr, IfSome, IsErrOf};
 ghost use Rattle.sid_core.specs.Faults.{Rose};
 ghost use Rattle.opendb_run.specs.declared.input.InputError.TheVariants.{OutOfMemory, ReadFault};
-ghost use Rattle.worker_script.specs.declared.parsing.TheConstants.{LIMIT};
+ghost use Rattle.sid_core.specs.declared.limits.TheConstants.{MAX_SCRIPT};
 ghost use Rattle.opendb_run.specs.Input.{TakesAll, TakesBefore, Refuses};
 
-use sid_core::{Failed, Source};
+use sid_core::{Failed, MAX_SCRIPT, Source};
 use std::alloc::{AllocError, Global};
-use worker_script::LIMIT;
 
 /// How many bytes are asked for at once.
 const CHUNK: usize = 8192;
@@ -42,7 +41,7 @@ impl From<AllocError> for InputError {
 pub fn read_all<S: Source>(alloc: Global, source: &mut S) -> Result<Vec<u8>, InputError>
     ensures whole { IfOk result (λ bytes.
         TakesAll (S.left source.old) (S.left source.new) bytes.items) }
-    ensures short { IfOk result (λ bytes. length bytes.items ≤ LIMIT) }
+    ensures short { IfOk result (λ bytes. length bytes.items ≤ MAX_SCRIPT) }
     ensures taken { IfErr result (TakesBefore (S.left source.old) (S.left source.new)) }
     ensures failed { IsErrOf result InputError.ReadFault
         → Rose (S.faults source.old) (S.faults source.new) }
@@ -52,13 +51,13 @@ pub fn read_all<S: Source>(alloc: Global, source: &mut S) -> Result<Vec<u8>, Inp
 {
     let mut bytes = Vec::new(alloc);
     let mut chunk = [0; CHUNK];
-    for _turn in 0..LIMIT + 1 {
-        let room = CHUNK.min(LIMIT + 1 - bytes.len());
+    for _turn in 0..MAX_SCRIPT + 1 {
+        let room = CHUNK.min(MAX_SCRIPT + 1 - bytes.len());
         let count = source.read(&mut chunk[..room])?;
         if count == 0 {
             return Ok(bytes);
         }
-        if count > LIMIT - bytes.len() {
+        if count > MAX_SCRIPT - bytes.len() {
             return Err(InputError::TooLarge);
         }
         bytes.extend_from_slice(&chunk[..count])?;

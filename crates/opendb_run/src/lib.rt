@@ -16,11 +16,9 @@ mod words;
 pub use adapters::{RealSink, RealSource};
 pub use gate::Open;
 pub use input::{InputError, read_all};
+pub use lines::{push_call_line, push_death_line, push_post_lines};
 pub use memory::{Bytes, Page};
 pub use output::write_all;
 pub use status::{Status, complain};
 pub use top::run;
 pub use words::Command;
-
-#[cfg(test)]
-mod tests;

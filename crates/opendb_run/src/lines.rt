@@ -6,15 +6,17 @@ mod reply;
 ghost use Rattle.std.specs.Prelude.{◌≡◌, ◌+◌, ◌<◌, ◌≤◌, ◌^◌, [], ◌∷◌, ◌++◌, length, OnOk};
 ghost use Rattle.std.specs.List.{flat_map};
 ghost use Rattle.std.specs.Fmt.{decimal};
-ghost use Rattle.serial_table.specs.Text.{call_line, call_word, number_from, post_line, reply_text};
+ghost use Rattle.sid_core.specs.declared.limits.TheConstants.{MAX_WORKERS};
+ghost use Rattle.sid_core.specs.Words.{word_of, word_text};
+ghost use Rattle.serial_table.specs.Text.{call_line, death_line, number_from, post_line, reply_text};
 
 use letter::push_letter;
 use piece::{push_decimal, push_numbered};
 use reply::push_reply;
-use sid_core::{Call, OutOfMemory, Post, Reply, Setup, Text, WorkerInfo};
+use sid_core::{Call, CallWord, OutOfMemory, Post, Reply, Setup, Text, WorkerInfo};
 
 /// Adds the line of a call. After an error a part of it may stand there.
-pub(crate) fn push_call_line(
+pub fn push_call_line(
     text: &mut Text,
     worker: u32,
     number: u32,
@@ -28,12 +30,20 @@ pub(crate) fn push_call_line(
     push_answer(text, call, reply)
 }
 
+/// Adds the line of a death. After an error a part of it may stand there.
+pub fn push_death_line(text: &mut Text, worker: u32) -> Result<(), OutOfMemory>
+    ensures { OnOk result (text.new ≡ text.old ++ death_line worker) }
+{
+    push_decimal(text, worker as u64)?;
+    text.push(b" died\n")
+}
+
 fn push_answer(text: &mut Text, call: &Call, reply: Reply) -> Result<(), OutOfMemory>
     ensures { OnOk result
-        (text.new ≡ text.old ++ (32 ∷ (call_word call.now ++ (32 ∷ (reply_text reply ++ 10 ∷ []))))) }
+        (text.new ≡ text.old ++ (32 ∷ (word_text (word_of call.now) ++ (32 ∷ (reply_text reply ++ 10 ∷ []))))) }
 {
     text.push(b" ")?;
-    text.push(call_word(call).as_bytes())?;
+    text.push(CallWord::of(call).text().as_bytes())?;
     text.push(b" ")?;
     push_reply_and_end(text, reply)
 }
@@ -45,36 +55,9 @@ fn push_reply_and_end(text: &mut Text, reply: Reply) -> Result<(), OutOfMemory>
     text.push(b"\n")
 }
 
-/// The word of a call.
-pub(crate) fn call_word(call: &Call) -> &'static str
-    ensures { result.now ≡ call_word call.now }
-{
-    match call {
-        Call::OpenFile { .. } => "open",
-        Call::Close { .. } => "close",
-        Call::Ack { .. } => "ack",
-        Call::Lock { .. } => "lock",
-        Call::Unlock { .. } => "unlock",
-        Call::Read { .. } => "read",
-        Call::Write { .. } => "write",
-        Call::GLock { .. } => "glock",
-        Call::GUnlock { .. } => "gunlock",
-        Call::Recv => "recv",
-        Call::Disconnect => "disconnect",
-        Call::Reconnect { .. } => "reconnect",
-        Call::Scavenge => "scavenge",
-        Call::Tidy => "tidy",
-        Call::Status { .. } => "status",
-    }
-}
-
 /// Adds a line for each letter. After an error a part of them may stand there.
-pub(crate) fn push_post_lines(
-    text: &mut Text,
-    setup: &Setup,
-    posts: &[Post],
-) -> Result<(), OutOfMemory>
-    requires { length setup.now.workers ≤ 64 }
+pub fn push_post_lines(text: &mut Text, setup: &Setup, posts: &[Post]) -> Result<(), OutOfMemory>
+    requires { length setup.now.workers ≤ MAX_WORKERS }
     ensures { OnOk result (text.new ≡ text.old ++ flat_map (post_line setup.now) posts.now) }
 {
     for post in posts {
@@ -85,7 +68,7 @@ pub(crate) fn push_post_lines(
 
 /// Adds the line of a letter, which names the worker that gets it by its number.
 pub(crate) fn push_post_line(text: &mut Text, setup: &Setup, post: &Post) -> Result<(), OutOfMemory>
-    requires { length setup.now.workers ≤ 64 }
+    requires { length setup.now.workers ≤ MAX_WORKERS }
     ensures { OnOk result (text.new ≡ text.old ++ post_line setup.now post.now) }
 {
     let worker = worker_number(setup.workers.as_slice(), post.to.pid);
@@ -97,7 +80,7 @@ pub(crate) fn push_post_line(text: &mut Text, setup: &Setup, post: &Post) -> Res
 
 /// The number of the worker with a pid, counted from 1, and 0 where there is none.
 pub(crate) fn worker_number(workers: &[WorkerInfo], pid: u32) -> u32
-    requires { length workers.now ≤ 64 }
+    requires { length workers.now ≤ MAX_WORKERS }
     ensures { result ≡ number_from 1 workers.now pid }
 {
     number_from(1, workers, pid)

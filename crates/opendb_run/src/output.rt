@@ -1,9 +1,10 @@
-ghost use Rattle.std.specs.Prelude.{◌≡◌, ◌+◌, ◌<◌, ◌≤◌, [], ◌∷◌, OnOk, OnErr};
+ghost use Rattle.std.specs.Prelude.{◌≤◌, OnOk, OnErr};
 ghost use Rattle.std.specs.Fmt.{decimal};
 ghost use Rattle.std.specs.Io.KnownBytes.{Appends};
 ghost use Rattle.sid_core.specs.Faults.{Rose};
 ghost use Rattle.opendb_run.specs.Output.{AppendsPrefix};
 
+use itoa::Buffer;
 use sid_core::{Failed, Sink};
 
 /// Writes all of `bytes`, in as many writes as the sink wants. No bytes are no write.
@@ -28,20 +29,6 @@ pub(crate) fn write_decimal<K: Sink>(sink: &mut K, number: u32) -> Result<(), Fa
     ensures failed { OnErr result (Rose (K.faults sink.old) (K.faults sink.new)) }
     ensures faults { K.faults sink.old ≤ K.faults sink.new }
 {
-    if number < 10 {
-        return write_digit(sink, number as u8);
-    }
-    write_decimal(sink, number / 10)?;
-    write_digit(sink, (number % 10) as u8)
-}
-
-fn write_digit<K: Sink>(sink: &mut K, digit: u8) -> Result<(), Failed>
-    requires { digit < 10 }
-    ensures written { OnOk result
-        (Appends (K.written sink.old) (K.written sink.new) ((48 + digit) ∷ [])) }
-    ensures prefix { AppendsPrefix (K.written sink.old) (K.written sink.new) ((48 + digit) ∷ []) }
-    ensures failed { OnErr result (Rose (K.faults sink.old) (K.faults sink.new)) }
-    ensures faults { K.faults sink.old ≤ K.faults sink.new }
-{
-    write_all(sink, &[b'0' + digit])
+    let mut digits = Buffer::new();
+    write_all(sink, digits.format(number).as_bytes())
 }

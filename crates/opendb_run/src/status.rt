@@ -26,8 +26,6 @@ pub enum Status {
     WriteFault,
     /// It can come whenever the allocator refuses. No clause says when.
     OutOfMemory,
-    /// The script has a line of a form that isn't built.
-    NotBuilt,
 }
 
 impl Status {
@@ -43,7 +41,6 @@ impl Status {
             Status::ReadFault => 4,
             Status::WriteFault => 5,
             Status::OutOfMemory => 6,
-            Status::NotBuilt => 20,
         }
     }
 }
@@ -60,8 +57,8 @@ impl From<InputError> for Status {
     }
 }
 
-/// Tells on `err` why the program ended. `line` is the number of the line that is bad or isn't built, and `reason` the reason why
-/// it is bad; they are read for those statuses alone. A fault of `err` cuts the text short, and nothing else comes of it.
+/// Tells on `err` why the program ended. `line` is the number of the bad line and `reason` the reason why it
+/// is bad; they are read for that status alone. A fault of `err` cuts the text short, and nothing else comes of it.
 pub fn complain<E: Sink>(err: &mut E, status: Status, line: u32, reason: u32)
     ensures text { ¬ (Rose (E.faults err.old) (E.faults err.new))
         → Appends (E.written err.old) (E.written err.new) (complaint status line reason) }
@@ -86,7 +83,6 @@ fn try_complain<E: Sink>(err: &mut E, status: Status, line: u32, reason: u32) ->
         Status::ReadFault => write_all(err, b"opendb: read fault\n"),
         Status::WriteFault => write_all(err, b"opendb: write fault\n"),
         Status::OutOfMemory => write_all(err, b"opendb: no memory\n"),
-        Status::NotBuilt => complain_of_line(err, line),
     }
 }
 
@@ -98,18 +94,6 @@ fn write_at_line<E: Sink>(err: &mut E, line: u32) -> Result<(), Failed>
 {
     write_all(err, b"opendb: line ")?;
     write_decimal(err, line)
-}
-
-fn complain_of_line<E: Sink>(err: &mut E, line: u32) -> Result<(), Failed>
-    ensures text { OnOk result
-        (Appends (E.written err.old) (E.written err.new) (at_line line ++ codes ": not built\n")) }
-    ensures prefix { AppendsPrefix (E.written err.old) (E.written err.new)
-        (at_line line ++ codes ": not built\n") }
-    ensures failed { OnErr result (Rose (E.faults err.old) (E.faults err.new)) }
-    ensures faults { E.faults err.old ≤ E.faults err.new }
-{
-    write_at_line(err, line)?;
-    write_all(err, b": not built\n")
 }
 
 fn write_reason<E: Sink>(err: &mut E, reason: u32) -> Result<(), Failed>

@@ -3,14 +3,14 @@ use Rattle.std.specs.Prelude.{◌≡◌, ℕ, true, false, ◌==◌, List, [], �
 use Rattle.sid_core.specs.declared.ids.LeaseName.{LeaseName}
 use Rattle.sid_core.specs.declared.ids.Spot.{Spot}
 use Rattle.sid_core.specs.declared.ids.Spot.TheVariants.{OpenOf, RangesOf}
-use Rattle.record_codec.specs.declared.handle.OpenRec.{OpenRec}
-use Rattle.record_codec.specs.declared.lease.LeaseRec.{LeaseRec}
-use Rattle.record_codec.specs.declared.lease.LeaseRef.{LeaseRef}
-use Rattle.record_codec.specs.declared.mail.MailRec.{MailRec}
-use Rattle.record_codec.specs.declared.register.RegisterRec.{RegisterRec}
-use Rattle.record_codec.specs.declared.share.ShareRec.{ShareRec}
+use Rattle.record_codec.specs.declared.open_rec.OpenRec.{OpenRec}
+use Rattle.record_codec.specs.declared.lease_rec.LeaseRec.{LeaseRec}
+use Rattle.record_codec.specs.declared.lease_rec.LeaseRef.{LeaseRef}
+use Rattle.record_codec.specs.declared.mail_rec.MailRec.{MailRec}
+use Rattle.record_codec.specs.declared.register_rec.RegisterRec.{RegisterRec}
+use Rattle.record_codec.specs.declared.share_rec.ShareRec.{ShareRec}
 use Rattle.record_codec.specs.declared.watch.WatchRec.{WatchRec}
-use Rattle.record_codec.specs.Counts.{Records, settled_lease, lease_is_settled, open_counts, watch_counts, register_watch_counts}
+use Rattle.record_codec.specs.Counts.{Records, settled_lease, IsSettledLease, open_counts, watch_counts, register_watch_counts}
 
 -- pid 101 lives in session 1, and no other pid lives
 abbrev register : ℕ → Option RegisterRec
@@ -79,15 +79,12 @@ records lease = record {
 no_refs : settled_lease (records (unbroken 1 1 [])) (unbroken 1 1 []) ≡ None
 no_refs = refl
 
-no_refs_is_stale : lease_is_settled (records (unbroken 1 1 [])) (unbroken 1 1 []) ≡ false
-no_refs_is_stale = refl
-
 -- Without HANDLE a disconnected open goes, and the lease with it.
 no_handle : settled_lease (records (unbroken 1 5 [])) (unbroken 1 5 (disconnected ∷ [])) ≡ None
 no_handle = refl
 
 -- With HANDLE it stays, and nothing changes.
-handle_is_settled : lease_is_settled (records (unbroken 1 7 [])) (unbroken 1 7 (disconnected ∷ [])) ≡ true
+handle_is_settled : IsSettledLease (records (unbroken 1 7 [])) (unbroken 1 7 (disconnected ∷ []))
 handle_is_settled = refl
 
 -- A break to RW that nobody can acknowledge takes HANDLE away, and then the open goes.

@@ -1,18 +1,15 @@
 -- The fields that records are made of are exact.
-use Rattle.std.proofs.Common.{◌≡◌, ℕ, zero, suc, ◌<◌, ◌^◌, Bool, true, false, ◌&&◌, inl, inr, List, ◌++◌, length, Result, refl, sym, ap, subst, ◌∙◌, append_assoc, lit<, arith}
+use Rattle.std.proofs.Common.{◌≡◌, ℕ, zero, suc, ◌<◌, Bool, true, false, ◌&&◌, length, refl, arith}
 use Rattle.std.specs.Prelude.{IsTrue, nat_lt}
 use Rattle.std.specs.List.{list_all}
-use Rattle.std.proofs.lemmas.Bool.{ltb-true, eqb-true, eq-eqb}
-use Rattle.byteorder.specs.Endian.{little_number}
+use Rattle.std.proofs.lemmas.Bool.{ltb-true}
 use Rattle.sid_core.specs.declared.call.Mode.{Mode}
 use Rattle.sid_core.specs.declared.call.Mode.TheVariants.{Shared, Exclusive}
 use Rattle.sid_core.specs.Values.{is_state}
-use Rattle.record_codec.specs.declared.fault.Unpack.{Unpack}
-use Rattle.record_codec.specs.declared.fault.Unpack.TheVariants.{Magic, Version, BadField}
-use Rattle.record_codec.specs.Codec.{Codec, ◌>>=◌, number, run, ◌⨾◌, left_out, times}
-use Rattle.record_codec.specs.Fields.{any, only, header, headed, state_in, state, watch, u8_in, u32_in, u64_in, u32, u64, truth, truth_in, truth_of, truth_byte, mode, mode_of, mode_byte, sid, open_id, list_in, list, text, is_text_length, is_printable}
-use Rattle.record_codec.proofs.Exact.{IsExact, bind_ok, bind_err, number_exact, run_exact, seq_exact, left_out_exact, via_exact, times_exact}
-use Rattle.record_codec.proofs.Bytes.{IsBytes-after}
+use Rattle.record_codec.specs.declared.fault.Unpack.TheVariants.{BadField}
+use Rattle.record_codec.specs.Codec.{Codec, number, run, ◌⨾◌, left_out, times}
+use Rattle.record_codec.specs.Fields.{any, state_in, state, watch, u8_in, u32_in, u64_in, u32, u64, truth, truth_in, truth_of, truth_byte, mode, mode_of, mode_byte, sid, open_id, list_in, list, text, is_text_length, is_printable}
+use Rattle.record_codec.proofs.Exact.{IsExact, number_exact, run_exact, seq_exact, left_out_exact, via_exact, times_exact}
 
 pub both : (a b : Bool) → IsTrue (a && b) → IsTrue a × IsTrue b
 both true b h = (refl, h)
@@ -32,50 +29,6 @@ u32_exact field = u32_in_exact field any
 
 pub u64_exact : (field : ℕ) → IsExact (u64 field)
 u64_exact field = u64_in_exact field any
-
-header_exact : (word : List ℕ) → IsExact (header word)
-header_exact word =
-    seq_exact (number 4 (only (little_number 4 word)) Magic) (λ _. number 2 (only 1) Version)
-    (number_exact 4 (only (little_number 4 word)) Magic) (λ _. number_exact 2 (only 1) Version)
-
-header_is : (word : List ℕ) (h : ℕ × ℕ) → (header word).valid h → h ≡ (little_number 4 word, 1)
-header_is word h v = let m = eqb-true _ _ v.0.1 in let o = eqb-true _ _ v.1.1 in rw (m, o) refl
-
-header_valid : (word : List ℕ) → little_number 4 word < 256 ^ 4 → (header word).valid (little_number 4 word, 1)
-header_valid word small = ((small, eq-eqb _ _ refl), (lit< tt, refl))
-
-pub headed_exact : {A : Type 0} (word : List ℕ) (fields : Codec A) → little_number 4 word < 256 ^ 4 → IsExact fields → IsExact (headed word fields)
-headed_exact {A = A} word fields small exact =
-    let head : IsExact (header word) = header_exact word in
-    let good : (header word).valid (little_number 4 word, 1) = header_valid word small in
-    record {
-      takes = λ bytes x fits e.
-          let a = bind_ok ((header word).read bytes) (λ h. fields.read h.1) x e in
-          let s = head.takes bytes a.0 fits a.1 in
-          let is = header_is word a.0.0 s.0 in
-          let t = exact.takes a.0.1 x (IsBytes-after bytes ((header word).spell a.0.0) a.0.1 fits s.1) a.2 in
-          let front = (header word).spell (little_number 4 word, 1) in
-          let first : bytes ≡ front ++ a.0.1 = subst (λ (h : ℕ × ℕ). bytes ≡ (header word).spell h ++ a.0.1) is s.1 in
-          (t.0, first ∙ ap (λ (r : List ℕ). front ++ r) t.1 ∙ sym (append_assoc front (fields.spell x.0) x.1));
-      again = λ x rest v.
-          let front = (header word).spell (little_number 4 word, 1) in
-          let regrouped : (front ++ fields.spell x) ++ rest ≡ front ++ (fields.spell x ++ rest) = append_assoc front (fields.spell x) rest in
-          ap (λ (b : List ℕ). (header word).read b >>= λ h. fields.read h.1) regrouped
-          ∙ ap (λ (r : Result ((ℕ × ℕ) × List ℕ) Unpack). r >>= λ h. fields.read h.1) (head.again (little_number 4 word, 1) (fields.spell x ++ rest) good)
-          ∙ exact.again x rest v;
-      fails = λ bytes e fits h.
-          elim (bind_err ((header word).read bytes) (λ h. fields.read h.1) e h) [
-            | inl f ↦ inl (head.fails bytes e fits f)
-            | inr a ↦
-                let s = head.takes bytes a.0 fits a.1 in
-                inr (a.0.0, a.0.1, s.0, s.1, exact.fails a.0.1 e (IsBytes-after bytes ((header word).spell a.0.0) a.0.1 fits s.1) a.2)
-          ];
-      faulty = λ bytes e h. elim h [
-        | inl f ↦ ap (λ (r : Result ((ℕ × ℕ) × List ℕ) Unpack). r >>= λ h. fields.read h.1) (head.faulty bytes e f)
-        | inr a ↦
-            ap (λ (r : Result ((ℕ × ℕ) × List ℕ) Unpack). r >>= λ h. fields.read h.1) (ap (header word).read a.3 ∙ head.again a.0 a.1 a.2) ∙ exact.faulty a.1 e a.4
-      ];
-    }
 
 -- ---- values of one byte
 

@@ -2,9 +2,7 @@
 use Rattle.std.proofs.Common.{◌≡◌, ℕ, suc, ◌-◌, ◌+◌, ◌≤◌, ◌<◌, List, [], ◌∷◌, ◌++◌, Result, Ok, Err, refl, sym, ap, ◌∙◌, append_assoc, arith}
 use Rattle.std.proofs.lemmas.List.{append-nil}
 use Rattle.record_codec.specs.declared.fault.Unpack.{Unpack}
-use Rattle.record_codec.specs.declared.fault.Unpack.TheVariants.{Magic, Version, Short, Trailing, BadField, OutOfMemory}
 use Rattle.record_codec.specs.Codec.{Codec, ◌>>=◌, times_read}
-use Rattle.record_codec.specs.Reads.{Fails}
 
 -- what was read before, and what is still read
 abbrev pub with_front : {A : Type 0} → List A → Result (List A × List ℕ) Unpack → Result (List A × List ℕ) Unpack
@@ -22,22 +20,13 @@ goes_on item front count i bytes x after total lt h so_far =
     let one : with_front front (times_read item.read (count - i) bytes) ≡ with_front (front ++ x ∷ []) (times_read item.read (count - (i + 1)) after) = rw (k, h) (regroup front x (times_read item.read (count - (i + 1)) after)) in
     sym one ∙ so_far
 
-fault_ends : {A : Type 0} (item : Codec A) (f : Unpack) (front : List A) (count i : ℕ) (bytes : List ℕ) (total : Result (List A × List ℕ) Unpack) → i < count → item.read bytes ≡ Err f
-    → with_front front (times_read item.read (count - i) bytes) ≡ total → total ≡ Err f
+pub ends : {A : Type 0} (item : Codec A) (e : Unpack) (front : List A) (count i : ℕ) (bytes : List ℕ) (total : Result (List A × List ℕ) Unpack) → i < count → item.read bytes ≡ Err e
+    → with_front front (times_read item.read (count - i) bytes) ≡ total → total ≡ Err e
 unfolding times_read
-fault_ends item f front count i bytes total lt h so_far =
+ends item f front count i bytes total lt h so_far =
     let k : count - i ≡ suc (count - (i + 1)) = omega arith in
     let one : with_front front (times_read item.read (count - i) bytes) ≡ Err f = rw (k, h) refl in
     sym so_far ∙ one
-
-pub ends : {A : Type 0} (item : Codec A) (e : Unpack) (front : List A) (count i : ℕ) (bytes : List ℕ) (total : Result (List A × List ℕ) Unpack) → i < count → Fails e (item.read bytes)
-    → with_front front (times_read item.read (count - i) bytes) ≡ total → Fails e total
-ends item OutOfMemory front count i bytes total lt h so_far = tt
-ends item Magic front count i bytes total lt h so_far = fault_ends item Magic front count i bytes total lt h so_far
-ends item Version front count i bytes total lt h so_far = fault_ends item Version front count i bytes total lt h so_far
-ends item Short front count i bytes total lt h so_far = fault_ends item Short front count i bytes total lt h so_far
-ends item Trailing front count i bytes total lt h so_far = fault_ends item Trailing front count i bytes total lt h so_far
-ends item (BadField n) front count i bytes total lt h so_far = fault_ends item (BadField n) front count i bytes total lt h so_far
 
 pub is_done : {A : Type 0} (item : Codec A) (front : List A) (count i : ℕ) (bytes : List ℕ) (total : Result (List A × List ℕ) Unpack) → count ≤ i → with_front front (times_read item.read (count - i) bytes) ≡ total → total ≡ Ok (front, bytes)
 unfolding times_read

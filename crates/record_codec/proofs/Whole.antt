@@ -1,12 +1,10 @@
--- The clauses of unpacking, for every codec that is exact.
+-- An exact codec is a grammar.
 use Rattle.std.proofs.Common.{◌≡◌, ℕ, false, cond, eqb, ◌⊎◌, inl, inr, List, [], ◌++◌, length, Result, Ok, Err, refl, sym, ap, subst, ◌∙◌, arith}
-use Rattle.std.specs.Prelude.{IfOk, IfErr}
 use Rattle.std.proofs.lemmas.Bool.{eqb-true, eqb-false, ne_eqb}
 use Rattle.std.proofs.lemmas.List.{append-nil, nil_from_length}
 use Rattle.record_codec.specs.declared.fault.Unpack.{Unpack}
-use Rattle.record_codec.specs.declared.fault.Unpack.TheVariants.{Magic, Version, Short, Trailing, BadField, OutOfMemory}
+use Rattle.record_codec.specs.declared.fault.Unpack.TheVariants.{Trailing}
 use Rattle.record_codec.specs.Codec.{Codec, Spells, FirstFault, read_all}
-use Rattle.record_codec.specs.Reads.{Fails, Gives, Explains, IsOkOrMemory, IsErrOrMemory}
 use Rattle.record_codec.specs.Laws.{IsGrammar}
 use Rattle.record_codec.proofs.Bytes.{IsBytes}
 use Rattle.record_codec.proofs.Exact.{IsExact, bind_ok, bind_err, passed, not_passed}
@@ -47,39 +45,6 @@ all_faulty c exact bytes e h = elim h [
       rw (a.3, exact.again a.0 a.1 a.2, some, a.4.1) refl
 ]
 
--- ---- the four clauses
-
-pub is_found : {A : Type 0} (c : Codec A) → IsExact c → (bytes : List ℕ) (r : Result A Unpack) → IsBytes bytes → Gives (λ x. x) r (read_all c bytes) → IfOk r (λ x. Spells c x bytes)
-is_found c exact bytes (Ok x) fits given = all_takes c exact bytes x fits given
-is_found c exact bytes (Err e) fits given = tt
-
-fails_with : {A : Type 0} (e : Unpack) (read : Result A Unpack) → Fails e read → (e ≡ OutOfMemory) ⊎ (read ≡ Err e)
-fails_with Magic read h = inr h
-fails_with Version read h = inr h
-fails_with Short read h = inr h
-fails_with Trailing read h = inr h
-fails_with (BadField n) read h = inr h
-fails_with OutOfMemory read h = inl refl
-
-pub is_spelled : {A : Type 0} (c : Codec A) → IsExact c → (bytes : List ℕ) (r : Result A Unpack) → Gives (λ x. x) r (read_all c bytes) → (x : A) → Spells c x bytes → IsOkOrMemory x r
-is_spelled c exact bytes (Ok y) given x s =
-    let e = all_again c exact bytes x s in cc
-is_spelled c exact bytes (Err d) given x s =
-    let e = all_again c exact bytes x s in
-    elim (fails_with d (read_all c bytes) given) [ inl m ↦ m | inr f ↦ absurd cc ]
-
-pub is_refused : {A : Type 0} (c : Codec A) → IsExact c → (bytes : List ℕ) (r : Result A Unpack) → IsBytes bytes → Gives (λ x. x) r (read_all c bytes) → IfErr r (Explains c bytes)
-is_refused c exact bytes (Ok y) fits given = tt
-is_refused c exact bytes (Err d) fits given =
-    elim (fails_with d (read_all c bytes) given) [ inl m ↦ inl m | inr f ↦ inr (all_fails c exact bytes d fits f) ]
-
-pub is_faulty : {A : Type 0} (c : Codec A) → IsExact c → (bytes : List ℕ) (r : Result A Unpack) → Gives (λ x. x) r (read_all c bytes) → (e : Unpack) → FirstFault c bytes e → IsErrOrMemory e r
-is_faulty c exact bytes (Ok y) given e h =
-    let f = all_faulty c exact bytes e h in absurd cc
-is_faulty c exact bytes (Err d) given e h =
-    let f = all_faulty c exact bytes e h in
-    elim (fails_with d (read_all c bytes) given) [ inl m ↦ inr m | inr g ↦ inl cc ]
-
 -- ---- the laws
 
 value_or_fault : {A : Type 0} (c : Codec A) → IsExact c → (bytes : List ℕ) → IsBytes bytes → (r : Result A Unpack) → read_all c bytes ≡ r → ((x : A) × Spells c x bytes) ⊎ ((e : Unpack) × FirstFault c bytes e)
@@ -100,4 +65,8 @@ exact_is_grammar c exact = record {
       let a = all_faulty c exact bytes e s in
       let b = all_faulty c exact bytes f t in cc;
   either = λ bytes fits. value_or_fault c exact bytes fits (read_all c bytes) refl;
+  value_is_read = λ x bytes s. all_again c exact bytes x s;
+  read_is_spelled = λ x bytes fits e. all_takes c exact bytes x fits e;
+  fault_is_read = λ bytes e f. all_faulty c exact bytes e f;
+  read_is_fault = λ bytes e fits h. all_fails c exact bytes e fits h;
 }

@@ -1,5 +1,5 @@
 -- What counts in a record. What doesn't is stale: it may stay until someone touches the record or tidies its chain.
-use Rattle.std.specs.Prelude.{ℕ, Bool, true, false, not, ◌==◌, ◌&&◌, ◌||◌, if◌then◌else◌, Option, Some, None, List, [], ◌∷◌}
+use Rattle.std.specs.Prelude.{◌≡◌, ℕ, ◌<◌, Bool, IsTrue, length, false, not, ◌==◌, ◌&&◌, ◌||◌, if◌then◌else◌, Option, Some, None, List, [], ◌∷◌}
 use Rattle.std.specs.List.{list_any, list_all, filter}
 use Rattle.sid_core.specs.Ids.{same_id, same_spot}
 use Rattle.sid_core.specs.Values.{has}
@@ -9,15 +9,15 @@ use Rattle.sid_core.specs.declared.ids.OpenId.{OpenId}
 use Rattle.sid_core.specs.declared.ids.LeaseName.{LeaseName}
 use Rattle.sid_core.specs.declared.bits.LeaseState.{LeaseState}
 use Rattle.record_codec.specs.declared.watch.WatchRec.{WatchRec}
-use Rattle.record_codec.specs.declared.glock.Hold.{Hold}
-use Rattle.record_codec.specs.declared.handle.OpenRec.{OpenRec}
-use Rattle.record_codec.specs.declared.share.ShareEntry.{ShareEntry}
-use Rattle.record_codec.specs.declared.share.ShareRec.{ShareRec}
-use Rattle.record_codec.specs.declared.lease.LeaseRef.{LeaseRef}
-use Rattle.record_codec.specs.declared.lease.LeaseRec.{LeaseRec}
-use Rattle.record_codec.specs.declared.register.RegisterRec.{RegisterRec}
-use Rattle.record_codec.specs.declared.ranges.RangeItem.{RangeItem}
-use Rattle.record_codec.specs.declared.mail.MailRec.{MailRec}
+use Rattle.record_codec.specs.declared.glock_rec.Hold.{Hold}
+use Rattle.record_codec.specs.declared.open_rec.OpenRec.{OpenRec}
+use Rattle.record_codec.specs.declared.share_rec.ShareEntry.{ShareEntry}
+use Rattle.record_codec.specs.declared.share_rec.ShareRec.{ShareRec}
+use Rattle.record_codec.specs.declared.lease_rec.LeaseRef.{LeaseRef}
+use Rattle.record_codec.specs.declared.lease_rec.LeaseRec.{LeaseRec}
+use Rattle.record_codec.specs.declared.register_rec.RegisterRec.{RegisterRec}
+use Rattle.record_codec.specs.declared.range_rec.RangeItem.{RangeItem}
+use Rattle.record_codec.specs.declared.mail_rec.MailRec.{MailRec}
 
 -- The records that say what counts, by their keys: the register and mailbox records by pid, the lease records by name,
 -- the share mode records by the file's number. A missing record is an empty one.
@@ -100,15 +100,15 @@ unless_empty records lease (ref ∷ refs) = Some (with_refs records lease (ref �
 abbrev pub settled_lease : Records → LeaseRec → Option LeaseRec
 settled_lease records lease = unless_empty records lease (settled_refs records lease)
 
-abbrev pub has_refs : List LeaseRef → Bool
-has_refs [] = false
-has_refs (ref ∷ refs) = true
+-- Settling changes nothing. A lease record that settling would change has a stale part.
+abbrev pub IsSettledLease : Records → LeaseRec → Type 0
+IsSettledLease records lease = settled_lease records lease ≡ Some lease
 
--- Settling changes nothing: the break isn't over, each reference counts, and there is one. A lease record that settling
--- would change has a stale part.
-abbrev pub lease_is_settled : Records → LeaseRec → Bool
-lease_is_settled records lease =
-    not (is_unanswered records lease) && list_all (ref_counts records lease) lease.refs && has_refs lease.refs
+-- The same by the record's parts: the break isn't over, each reference counts, and there is one.
+pub record HasNoStalePart (records : Records) (lease : LeaseRec) : Type 0 where
+  pub answered : is_unanswered records lease ≡ false
+  pub each_counts : IsTrue (list_all (ref_counts records lease) lease.refs)
+  pub some : 0 < length lease.refs
 
 -- ---- opens
 

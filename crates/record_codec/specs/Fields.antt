@@ -1,16 +1,15 @@
 -- The fields that records are made of.
-use Rattle.std.specs.Prelude.{ℕ, zero, suc, nat_lt, nat_le, Bool, true, false, not, ◌==◌, ◌&&◌, ◌||◌, if◌then◌else◌, ◌⊎◌, List, ◌++◌, length}
-use Rattle.std.specs.List.{list_all}
+use Rattle.std.specs.Prelude.{◌≡◌, ℕ, zero, suc, nat_lt, nat_le, Bool, true, false, not, ◌==◌, ◌&&◌, ◌||◌, if◌then◌else◌, List, length}
+use Rattle.std.specs.List.{list_all, AllByRecursion}
 use Rattle.sid_core.specs.declared.ids.Sid.{Sid}
 use Rattle.sid_core.specs.declared.ids.OpenId.{OpenId}
 use Rattle.sid_core.specs.declared.call.Mode.{Mode}
 use Rattle.sid_core.specs.declared.call.Mode.TheVariants.{Shared, Exclusive}
 use Rattle.sid_core.specs.declared.bits.LeaseState.{LeaseState}
-use Rattle.sid_core.specs.Values.{is_part_of, is_state}
-use Rattle.byteorder.specs.Endian.{little_number}
+use Rattle.sid_core.specs.Values.{IsU32, is_part_of, is_state}
 use Rattle.record_codec.specs.declared.watch.WatchRec.{WatchRec}
-use Rattle.record_codec.specs.declared.fault.Unpack.TheVariants.{Magic, Version, BadField}
-use Rattle.record_codec.specs.Codec.{Codec, ◌>>=◌, Follows, number, run, ◌⨾◌, left_out, via, times}
+use Rattle.record_codec.specs.declared.fault.Unpack.TheVariants.{BadField}
+use Rattle.record_codec.specs.Codec.{Codec, number, run, ◌⨾◌, left_out, via, times}
 
 -- every number
 abbrev pub any : ℕ → Bool
@@ -19,19 +18,6 @@ any n = true
 -- that number alone
 abbrev pub only : ℕ → ℕ → Bool
 only n m = m == n
-
--- Four letters of magic, and version 1.
-abbrev pub header : List ℕ → Codec (ℕ × ℕ)
-header word = number 4 (only (little_number 4 word)) Magic ⨾ λ _. number 2 (only 1) Version
-
--- A record: its header and its fields from the third on.
-abbrev pub headed : {A : Type 0} → List ℕ → Codec A → Codec A
-headed word fields = record {
-  spell = λ x. (header word).spell (little_number 4 word, 1) ++ fields.spell x;
-  valid = λ x. fields.valid x;
-  fault = λ bytes e. (header word).fault bytes e ⊎ Follows (header word) (λ _ rest. fields.fault rest e) bytes;
-  read = λ bytes. (header word).read bytes >>= λ h. fields.read h.1;
-}
 
 -- ---- numbers of the field with this place in its table
 
@@ -108,6 +94,14 @@ lowered breaking held n = if breaking then is_proper_part_of n held.0 else n == 
 
 -- ---- sessions and opens
 
+pub record IsSid (sid_ : Sid) : Type 0 where
+  pub pid : IsU32 sid_.pid
+  pub session : IsU32 sid_.session
+
+pub record IsOpenId (id : OpenId) : Type 0 where
+  pub pid : IsU32 id.pid
+  pub call : IsU32 id.call
+
 abbrev pub sid : ℕ → ℕ → Codec Sid
 sid pid session = via (λ p. record { pid = p.0; session = p.1 }) (λ s. (s.pid, s.session)) (u32 pid ⨾ λ _. u32 session)
 
@@ -116,12 +110,23 @@ open_id pid call = via (λ p. record { pid = p.0; call = p.1 }) (λ s. (s.pid, s
 
 -- ---- watches
 
+-- a watch whose flag isn't written
+pub record IsWatch (watch_ : WatchRec) : Type 0 where
+  pub sid : IsSid watch_.sid
+  pub call : IsU32 watch_.call
+  pub no_upgrade : watch_.upgrade ≡ false
+
 -- A call that waits. Its upgrade flag is false and has no field.
 abbrev pub watch : ℕ → ℕ → ℕ → Codec WatchRec
 watch pid session call = via (λ p. record { sid = p.0; call = p.1.0; upgrade = p.1.1 }) (λ w. (w.sid, (w.call, w.upgrade)))
     (sid pid session ⨾ λ _. u32 call ⨾ λ _. left_out false)
 
 -- ---- lists and texts
+
+-- fewer than 2^32 items, each of the kind
+pub record IsListOf {A : Type 0} (Is : A → Type 0) (items : List A) : Type 0 where
+  pub few : IsU32 (length items)
+  pub each : AllByRecursion Is items
 
 -- A count that lies in a set, and that many items.
 abbrev pub list_in : {A : Type 0} → ℕ → (ℕ → Bool) → Codec A → Codec (List A)

@@ -2,8 +2,14 @@
 use Rattle.std.specs.Prelude.{◌≡◌, ℕ, ◌⊎◌, List, Result, Ok, Err, MatchResult}
 use Rattle.record_codec.specs.declared.fault.Unpack.{Unpack}
 use Rattle.record_codec.specs.declared.fault.Unpack.TheVariants.{Magic, Version, Short, Trailing, BadField, OutOfMemory}
-use Rattle.record_codec.specs.Codec.{Codec, FirstFault}
+use Rattle.record_codec.specs.Codec.{Codec, Spells, FirstFault}
 
+-- What was returned, seen by view, is what reading gives.
+abbrev pub Gives : {X Y : Type 0} → (X → Y) → Result X Unpack → Result Y Unpack → Type 0
+Gives view (Ok x) read = read ≡ Ok (view x)
+Gives view (Err e) read = read ≡ Err e
+
+-- Reading fails with that fault, or memory ran out.
 abbrev pub Fails : {Y : Type 0} → Unpack → Result Y Unpack → Type 0
 Fails OutOfMemory read = Unit {0}
 Fails Magic read = read ≡ Err Magic
@@ -12,10 +18,14 @@ Fails Short read = read ≡ Err Short
 Fails Trailing read = read ≡ Err Trailing
 Fails (BadField n) read = read ≡ Err (BadField n)
 
--- What was returned, seen by view, is what reading gives, unless memory ran out.
-abbrev pub Gives : {X Y : Type 0} → (X → Y) → Result X Unpack → Result Y Unpack → Type 0
-Gives view (Ok x) read = read ≡ Ok (view x)
-Gives view (Err e) read = Fails e read
+-- It is what reading gives, or memory ran out.
+abbrev pub GivesOrMemory : {X Y : Type 0} → (X → Y) → Result X Unpack → Result Y Unpack → Type 0
+GivesOrMemory view (Ok x) read = read ≡ Ok (view x)
+GivesOrMemory view (Err e) read = Fails e read
+
+-- A version of the record and the value are spelled by the bytes.
+abbrev pub SpellsSome : {A : Type 0} → Codec (ℕ × A) → A → List ℕ → Type 0
+SpellsSome c x bytes = (version : ℕ) × Spells c (version, x) bytes
 
 -- The error is the first fault of the bytes, or memory ran out.
 abbrev pub Explains : {A : Type 0} → Codec A → List ℕ → Unpack → Type 0

@@ -2,31 +2,31 @@
 #![tactic(auto)]
 
 mod fault;
-mod glock;
-mod handle;
+mod glock_rec;
+mod in_place;
 mod laws;
-mod lease;
-mod mail;
-mod ranges;
-mod reading;
+mod lease_rec;
+mod mail_rec;
+mod open_rec;
+mod range_rec;
+pub mod reading;
 mod record;
-mod register;
+mod register_rec;
 mod rows;
-mod share;
+mod share_rec;
 mod watch;
 mod writing;
 
 pub use fault::Unpack;
-pub use glock::{GLockRec, Hold};
-pub use handle::OpenRec;
-pub use laws::{packed_and_unpacked, records_are_grammars, sets_of_values};
-pub use lease::{LeaseRec, LeaseRef};
-pub use mail::{MailRec, Token};
-pub use ranges::{RangeItem, RangeRec};
+pub use glock_rec::{GLockRec, Hold, HoldRow, UpgradeRow};
+pub use in_place::{LentItems, list_at};
+pub use laws::{packed_and_unpacked, sets_of_values, settled_leases};
+pub use lease_rec::{LeaseRec, LeaseRef, LeaseRefRow};
+pub use mail_rec::{LetterRow, MailRec, Token, TokenRow};
+pub use open_rec::OpenRec;
+pub use range_rec::{RangeItem, RangeRec, RangeRow};
 pub use record::Packed;
-pub use register::RegisterRec;
-pub use share::{ShareEntry, ShareRec};
-pub use watch::WatchRec;
-
-#[cfg(test)]
-mod tests;
+pub use register_rec::{EndedRow, RegisterRec};
+pub use rows::Row;
+pub use share_rec::{ShareEntry, ShareEntryRow, ShareRec};
+pub use watch::{WatchRec, WatchRow};

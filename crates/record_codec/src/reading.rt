@@ -1,20 +1,20 @@
-ghost use Rattle.std.specs.Prelude.{◌≡◌, ℕ, List};
+//! The fields of records in place: what each function answers is what `unpack` answers there. None takes memory.
+ghost use Rattle.std.specs.Prelude.{◌≡◌, ℕ, List, [], ◌∷◌, true};
 ghost use Rattle.std.specs.List.{list_all};
-ghost use Rattle.byteorder.specs.Endian.{little_number};
 ghost use Rattle.sid_core.specs.Values.{is_state as is_state_number};
 ghost use Rattle.record_codec.specs.declared.fault.Unpack.TheVariants.{BadField};
 ghost use Rattle.record_codec.specs.Codec.{raw, number as number_codec, read_run};
-ghost use Rattle.record_codec.specs.Fields.{header, within, is_moment, is_printable, is_text_length, lowered, u32_in, u64_in, zero_unless, truth, truth_in, mode, state, state_in, sid, open_id, text};
-ghost use Rattle.record_codec.specs.Lease.{needed};
+ghost use Rattle.record_codec.specs.Fields.{within, is_moment, is_printable as is_printable_number, is_text_length, lowered, u32_in, u64_in, zero_unless, truth, truth_in, mode, state, state_in, sid, open_id, text};
+ghost use Rattle.record_codec.specs.LeaseRec.{needed};
 ghost use Rattle.record_codec.specs.Reads.{Gives};
 
 use crate::fault::Unpack;
 use byteorder::{ByteOrder, LittleEndian};
-use sid_core::{LeaseState, Mode, OpenId, Sid, Text};
-use std::alloc::Global;
+use sid_core::{LeaseState, Mode, OpenId, Sid};
 
+/// A number of one byte.
 #[tactic(auto, unfolding(crate::specs::Codec::raw))]
-pub(crate) fn u8_at(bytes: &[u8]) -> Result<(u8, &[u8]), Unpack>
+pub fn u8_at(bytes: &[u8]) -> Result<(u8, &[u8]), Unpack>
     ensures { Gives (λ x. (x.0, x.1.now)) result (raw 1 bytes.now) }
 {
     match bytes {
@@ -23,8 +23,9 @@ pub(crate) fn u8_at(bytes: &[u8]) -> Result<(u8, &[u8]), Unpack>
     }
 }
 
+/// A number of two bytes, the lowest first.
 #[tactic(auto, unfolding(crate::specs::Codec::raw))]
-pub(crate) fn u16_at(bytes: &[u8]) -> Result<(u16, &[u8]), Unpack>
+pub fn u16_at(bytes: &[u8]) -> Result<(u16, &[u8]), Unpack>
     ensures { Gives (λ x. (x.0, x.1.now)) result (raw 2 bytes.now) }
 {
     if bytes.len() < 2 {
@@ -34,8 +35,9 @@ pub(crate) fn u16_at(bytes: &[u8]) -> Result<(u16, &[u8]), Unpack>
     Ok((number, &bytes[2..]))
 }
 
+/// A number of four bytes, the lowest first.
 #[tactic(auto, unfolding(crate::specs::Codec::raw))]
-pub(crate) fn u32_at(bytes: &[u8]) -> Result<(u32, &[u8]), Unpack>
+pub fn u32_at(bytes: &[u8]) -> Result<(u32, &[u8]), Unpack>
     ensures { Gives (λ x. (x.0, x.1.now)) result (raw 4 bytes.now) }
 {
     if bytes.len() < 4 {
@@ -45,8 +47,9 @@ pub(crate) fn u32_at(bytes: &[u8]) -> Result<(u32, &[u8]), Unpack>
     Ok((number, &bytes[4..]))
 }
 
+/// A number of eight bytes, the lowest first.
 #[tactic(auto, unfolding(crate::specs::Codec::raw))]
-pub(crate) fn u64_at(bytes: &[u8]) -> Result<(u64, &[u8]), Unpack>
+pub fn u64_at(bytes: &[u8]) -> Result<(u64, &[u8]), Unpack>
     ensures { Gives (λ x. (x.0, x.1.now)) result (raw 8 bytes.now) }
 {
     if bytes.len() < 8 {
@@ -56,22 +59,8 @@ pub(crate) fn u64_at(bytes: &[u8]) -> Result<(u64, &[u8]), Unpack>
     Ok((number, &bytes[8..]))
 }
 
-/// The bytes after a header with this magic and version 1.
-pub(crate) fn header_at(bytes: &[u8], word: [u8; 4]) -> Result<&[u8], Unpack>
-    ensures { Gives (λ rest. ((little_number 4 word, 1), rest.now)) result ((header word).read bytes.now) }
-{
-    let (magic, rest) = u32_at(bytes)?;
-    if magic != LittleEndian::read_u32(&word) {
-        return Err(Unpack::Magic);
-    }
-    let (version, rest) = u16_at(rest)?;
-    if version != 1 {
-        return Err(Unpack::Version);
-    }
-    Ok(rest)
-}
-
-pub(crate) fn truth_at(bytes: &[u8], field: u32) -> Result<(bool, &[u8]), Unpack>
+/// 0 is false and 1 is true.
+pub fn truth_at(bytes: &[u8], field: u32) -> Result<(bool, &[u8]), Unpack>
     ensures { Gives (λ x. (x.0, x.1.now)) result ((truth field).read bytes.now) }
 {
     match u8_at(bytes)? {
@@ -81,7 +70,8 @@ pub(crate) fn truth_at(bytes: &[u8], field: u32) -> Result<(bool, &[u8]), Unpack
     }
 }
 
-pub(crate) fn mode_at(bytes: &[u8], field: u32) -> Result<(Mode, &[u8]), Unpack>
+/// 0 is shared and 1 is exclusive.
+pub fn mode_at(bytes: &[u8], field: u32) -> Result<(Mode, &[u8]), Unpack>
     ensures { Gives (λ x. (x.0, x.1.now)) result ((mode field).read bytes.now) }
 {
     match u8_at(bytes)? {
@@ -91,7 +81,8 @@ pub(crate) fn mode_at(bytes: &[u8], field: u32) -> Result<(Mode, &[u8]), Unpack>
     }
 }
 
-pub(crate) fn sid_at(bytes: &[u8]) -> Result<(Sid, &[u8]), Unpack>
+/// A pid and the number of a session.
+pub fn sid_at(bytes: &[u8]) -> Result<(Sid, &[u8]), Unpack>
     ensures { Gives (λ x. (x.0, x.1.now)) result ((sid 0 0).read bytes.now) }
 {
     let (pid, rest) = u32_at(bytes)?;
@@ -99,7 +90,8 @@ pub(crate) fn sid_at(bytes: &[u8]) -> Result<(Sid, &[u8]), Unpack>
     Ok((Sid { pid, session }, rest))
 }
 
-pub(crate) fn open_id_at(bytes: &[u8]) -> Result<(OpenId, &[u8]), Unpack>
+/// A pid and the number of a call.
+pub fn open_id_at(bytes: &[u8]) -> Result<(OpenId, &[u8]), Unpack>
     ensures { Gives (λ x. (x.0, x.1.now)) result ((open_id 0 0).read bytes.now) }
 {
     let (pid, rest) = u32_at(bytes)?;
@@ -107,12 +99,8 @@ pub(crate) fn open_id_at(bytes: &[u8]) -> Result<(OpenId, &[u8]), Unpack>
     Ok((OpenId { pid, call }, rest))
 }
 
-pub(crate) fn u32_within(
-    bytes: &[u8],
-    field: u32,
-    low: u32,
-    high: u32,
-) -> Result<(u32, &[u8]), Unpack>
+/// A number from `low` to `high`.
+pub fn u32_within(bytes: &[u8], field: u32, low: u32, high: u32) -> Result<(u32, &[u8]), Unpack>
     ensures { Gives (λ x. (x.0, x.1.now)) result ((u32_in field (within low high)).read bytes.now) }
 {
     let (number, rest) = u32_at(bytes)?;
@@ -122,7 +110,8 @@ pub(crate) fn u32_within(
     Ok((number, rest))
 }
 
-pub(crate) fn moment_at(bytes: &[u8], field: u32) -> Result<(u64, &[u8]), Unpack>
+/// A moment, to 9,999,999,999 seconds.
+pub fn moment_at(bytes: &[u8], field: u32) -> Result<(u64, &[u8]), Unpack>
     ensures { Gives (λ x. (x.0, x.1.now)) result ((u64_in field is_moment).read bytes.now) }
 {
     let (number, rest) = u64_at(bytes)?;
@@ -133,11 +122,7 @@ pub(crate) fn moment_at(bytes: &[u8], field: u32) -> Result<(u64, &[u8]), Unpack
 }
 
 /// A number that is 0 unless the condition holds.
-pub(crate) fn u32_or_zero_at(
-    bytes: &[u8],
-    field: u32,
-    condition: bool,
-) -> Result<(u32, &[u8]), Unpack>
+pub fn u32_or_zero_at(bytes: &[u8], field: u32, condition: bool) -> Result<(u32, &[u8]), Unpack>
     ensures { Gives (λ x. (x.0, x.1.now)) result ((u32_in field (zero_unless condition)).read bytes.now) }
 {
     let (number, rest) = u32_at(bytes)?;
@@ -147,11 +132,8 @@ pub(crate) fn u32_or_zero_at(
     Ok((number, rest))
 }
 
-pub(crate) fn u64_or_zero_at(
-    bytes: &[u8],
-    field: u32,
-    condition: bool,
-) -> Result<(u64, &[u8]), Unpack>
+/// A number that is 0 unless the condition holds.
+pub fn u64_or_zero_at(bytes: &[u8], field: u32, condition: bool) -> Result<(u64, &[u8]), Unpack>
     ensures { Gives (λ x. (x.0, x.1.now)) result ((u64_in field (zero_unless condition)).read bytes.now) }
 {
     let (number, rest) = u64_at(bytes)?;
@@ -161,11 +143,8 @@ pub(crate) fn u64_or_zero_at(
     Ok((number, rest))
 }
 
-pub(crate) fn truth_or_zero_at(
-    bytes: &[u8],
-    field: u32,
-    condition: bool,
-) -> Result<(bool, &[u8]), Unpack>
+/// A truth value that is false unless the condition holds.
+pub fn truth_or_zero_at(bytes: &[u8], field: u32, condition: bool) -> Result<(bool, &[u8]), Unpack>
     ensures { Gives (λ x. (x.0, x.1.now)) result ((truth_in field (zero_unless condition)).read bytes.now) }
 {
     let (number, rest) = u8_at(bytes)?;
@@ -181,7 +160,8 @@ fn is_state(state: u8) -> bool
     state == 0 || state == 1 || state == 3 || state == 5 || state == 7
 }
 
-pub(crate) fn state_at(bytes: &[u8], field: u32) -> Result<(LeaseState, &[u8]), Unpack>
+/// A state of a lease.
+pub fn state_at(bytes: &[u8], field: u32) -> Result<(LeaseState, &[u8]), Unpack>
     ensures { Gives (λ x. (x.0, x.1.now)) result ((state field).read bytes.now) }
 {
     let (number, rest) = u8_at(bytes)?;
@@ -191,7 +171,8 @@ pub(crate) fn state_at(bytes: &[u8], field: u32) -> Result<(LeaseState, &[u8]), 
     Ok((LeaseState(number), rest))
 }
 
-pub(crate) fn state_or_zero_at(
+/// A state that is 0 unless the condition holds.
+pub fn state_or_zero_at(
     bytes: &[u8],
     field: u32,
     condition: bool,
@@ -216,7 +197,7 @@ fn is_lowered(number: u8, breaking: bool, held: LeaseState) -> bool
 }
 
 /// What a break may lower a state to; 0 where there is no break.
-pub(crate) fn lowered_at(
+pub fn lowered_at(
     bytes: &[u8],
     field: u32,
     breaking: bool,
@@ -242,7 +223,7 @@ fn is_needed(number: u8, breaking: bool, asked: LeaseState) -> bool
 }
 
 /// What a break needs in the end; 0 where there is no break.
-pub(crate) fn needed_at(
+pub fn needed_at(
     bytes: &[u8],
     field: u32,
     breaking: bool,
@@ -257,15 +238,52 @@ pub(crate) fn needed_at(
     Ok((LeaseState(number), rest))
 }
 
-fn are_printable(bytes: &[u8]) -> bool
-    ensures { result ≡ list_all is_printable bytes.now }
+fn is_printable(byte: u8) -> bool
+    ensures { result ≡ is_printable_number byte }
 {
-    bytes.iter().all(|byte| 0x21 <= *byte && *byte <= 0x7E)
+    0x21 <= byte && byte <= 0x7E
+}
+
+// Four bytes at a time, which takes fewer instructions.
+fn are_printable(bytes: &[u8]) -> bool
+    ensures { result ≡ list_all is_printable_number bytes.now }
+{
+    let mut rest = bytes;
+    'fours: while let [a, b, c, d, others @ ..] = rest {
+        if !are_four_printable(*a, *b, *c, *d) {
+            return false;
+        }
+        rest = others;
+    }
+    is_each_printable(rest)
+}
+
+fn is_each_printable(bytes: &[u8]) -> bool
+    ensures { result ≡ list_all is_printable_number bytes.now }
+{
+    bytes.iter().all(|byte| is_printable(*byte))
+}
+
+fn are_four_printable(a: u8, b: u8, c: u8, d: u8) -> bool
+    ensures { result ≡ list_all is_printable_number (a ∷ b ∷ c ∷ d ∷ []) }
+{
+    is_printable(a) & is_printable(b) & is_printable(c) & is_printable(d)
+}
+
+/// So many bytes, whatever they are.
+#[tactic(auto, unfolding(crate::specs::Codec::read_run))]
+pub fn run_at(bytes: &[u8], len: usize, field: u32) -> Result<(&[u8], &[u8]), Unpack>
+    ensures { Gives (λ x. (x.0.now, x.1.now)) result (read_run len (λ run. true) (BadField field) bytes.now) }
+{
+    if bytes.len() < len {
+        return Err(Unpack::Short);
+    }
+    Ok(bytes.split_at(len))
 }
 
 #[tactic(auto, unfolding(crate::specs::Codec::read_run))]
-fn run_at(bytes: &[u8], len: usize, field: u32) -> Result<(&[u8], &[u8]), Unpack>
-    ensures { Gives (λ x. (x.0.now, x.1.now)) result (read_run len (list_all is_printable) (BadField field) bytes.now) }
+fn printable_at(bytes: &[u8], len: usize, field: u32) -> Result<(&[u8], &[u8]), Unpack>
+    ensures { Gives (λ x. (x.0.now, x.1.now)) result (read_run len (list_all is_printable_number) (BadField field) bytes.now) }
 {
     if bytes.len() < len {
         return Err(Unpack::Short);
@@ -287,12 +305,10 @@ fn text_length_at(bytes: &[u8], field: u32) -> Result<(u16, &[u8]), Unpack>
     Ok((len, rest))
 }
 
-pub(crate) fn text_at(alloc: Global, bytes: &[u8], field: u32) -> Result<(Text, &[u8]), Unpack>
-    ensures { Gives (λ x. (x.0, x.1.now)) result ((text field).read bytes.now) }
+/// The bytes of a text: 1 to 255, printable and no space.
+pub fn text_at(bytes: &[u8], field: u32) -> Result<(&[u8], &[u8]), Unpack>
+    ensures { Gives (λ x. (x.0.now, x.1.now)) result ((text field).read bytes.now) }
 {
     let (len, rest) = text_length_at(bytes, field)?;
-    let (front, rest) = run_at(rest, len as usize, field)?;
-    let mut text = Text::new(alloc);
-    text.push(front)?;
-    Ok((text, rest))
+    printable_at(rest, len as usize, field)
 }

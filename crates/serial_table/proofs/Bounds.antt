@@ -1,313 +1,372 @@
 -- Legal histories keep the table bounded.
-use Rattle.std.proofs.Common.{◌≡◌, ◌==◌, ◌+◌, ◌*◌, ◌^◌, ◌<◌, ◌≤◌, ℕ, zero, suc, Bool, true, false, cond, List, [], ◌∷◌, ◌++◌, length, filter, map, Option, Some, None, refl, sym, ap, ◌∙◌, subst, arith, eq-eqb, length-append, inl, inr, ◌⊎◌}
-use Rattle.std.specs.Prelude.{option_and_then, IfSome}
-use Rattle.std.specs.List.{AllByRecursion, list_any, sum_by}
-use Rattle.std.specs.Option.{option_map, option_map_or}
-use Rattle.std.proofs.lemmas.List.Sums.{sum_by-append, sum_by-cons, length-filter, count_by-le-length}
-use Rattle.std.proofs.lemmas.Bool.{cases_lt}
-use Rattle.std.proofs.lemmas.Option.{slice_get_within}
-use Rattle.sid_core.specs.declared.bits.Access.{Access}
-use Rattle.sid_core.specs.declared.bits.Share.{Share}
+use Rattle.std.proofs.Common.{◌≡◌, ◌==◌, ◌≤◌, ◌<◌, ◌+◌, ◌*◌, ℕ, zero, suc, Bool, true, false, cond, not, ◌&&◌, List, [], ◌∷◌, ◌++◌, length, filter, map, Option, Some, None, refl, ap, ◌∙◌, subst, inl, inr, arith}
+use Rattle.std.specs.Prelude.{IfSome, slice_get}
+use Rattle.std.specs.List.{IsDistinct, list_any, sum_by}
+use Rattle.std.proofs.lemmas.Bool.{both_ways, cond_both, and_from, eq-eqb}
+use Rattle.std.proofs.lemmas.List.{length-map}
+use Rattle.std.proofs.lemmas.List.Sums.{sum_by-cons, sum_by-append, sum_by-le}
+use Rattle.std.proofs.lemmas.Option.{IfSome_then}
+use Rattle.sid_core.specs.declared.ids.Sid.{Sid}
 use Rattle.sid_core.specs.declared.ids.Moment.{Moment}
-use Rattle.sid_core.specs.declared.ids.Spot.{Spot}
 use Rattle.sid_core.specs.declared.entry.Entry.{Entry}
-use Rattle.sid_core.specs.declared.entry.Event.{Event}
-use Rattle.sid_core.specs.declared.entry.Event.TheVariants.{Called, Died, Tidied}
 use Rattle.sid_core.specs.declared.entry.Post.{Post}
-use Rattle.sid_core.specs.declared.call.Call.{Call}
-use Rattle.sid_core.specs.declared.call.Call.TheVariants.{OpenFile, Close}
 use Rattle.sid_core.specs.declared.setup.Setup.{Setup}
 use Rattle.sid_core.specs.declared.setup.WorkerInfo.{WorkerInfo}
-use Rattle.sid_core.specs.Setup.{IsSetup, IsDeclared}
-use Rattle.serial_table.specs.declared.rows.OpenRow.{OpenRow}
+use Rattle.sid_core.specs.Setup.{IsSetup}
+use Rattle.sid_core.specs.Ids.{same_sid}
 use Rattle.serial_table.specs.declared.rows.WaiterRow.{WaiterRow}
 use Rattle.serial_table.specs.declared.rows.WorkerRow.{WorkerRow}
 use Rattle.serial_table.specs.declared.table.Table.{Table}
 use Rattle.serial_table.specs.declared.change.Change.{Change}
-use Rattle.serial_table.specs.declared.change.Change.TheVariants.{AddOpen, DropOpen, AddWaiter, DropWaiter, DropWaiters, Send, Settle}
+use Rattle.serial_table.specs.declared.change.Change.TheVariants as c
 use Rattle.serial_table.specs.declared.decision.Caller.{Caller}
 use Rattle.serial_table.specs.declared.decision.Decision.{Decision}
-use Rattle.serial_table.specs.declared.decision.Stepped.{Stepped}
-use Rattle.serial_table.specs.View.{View, view}
-use Rattle.serial_table.specs.Settle.{settle, keeps_open}
-use Rattle.serial_table.specs.Change.{apply, apply_all, change_all, is_other_open}
-use Rattle.serial_table.specs.Decision.{settling, finishing, waits_now, woken, all_posts, conclude}
-use Rattle.serial_table.specs.Open.{conflicts, granted, refused, open_file}
-use Rattle.serial_table.specs.Close.{close, close_one}
-use Rattle.serial_table.specs.Decide.{decide, outcome}
-use Rattle.serial_table.specs.Step.{caller_of, caller_if_alive, declared_at, step}
-use Rattle.serial_table.specs.History.{start, start_workers, after_event, after_entry, after_all, after, IsLegalEvent, AreLegal, IsLegal, call_number, own_number, numbers_of, RisesAbove}
+use Rattle.serial_table.specs.View.{View, view, is_of_handle}
+use Rattle.serial_table.specs.Settle.{settle_where, row_stays, range_stays, lease_settles, lease_stays}
+use Rattle.serial_table.specs.Wake.{wake}
+use Rattle.serial_table.specs.Change.{perform, perform_all, is_other_open, is_other_range, new_owner, set_lease, same_range, is_hold, set_hold, outlives, range_outlives, end_session, begin_session, end_at}
+use Rattle.serial_table.specs.Decision.{waits_no_more, waits_now, settling, finishing, woken_by, conclude}
+use Rattle.serial_table.specs.Session.{end_of_session}
+use Rattle.serial_table.specs.Decide.{decide}
+use Rattle.serial_table.specs.Step.{declared_at}
+use Rattle.serial_table.specs.History.{start, start_workers, after, IsLegal}
+use Rattle.serial_table.specs.Sound.{IsConsistent, Fits, AllFit}
 use Rattle.serial_table.specs.Bounded.{IsSession, IsBounded}
-use Rattle.serial_table.proofs.Differing.{all_weaker}
-use Rattle.serial_table.proofs.Soundness.{IsQuiet, legal_is_quiet}
+use Rattle.serial_table.proofs.Members.{IsIn, all_by, some_same}
+use Rattle.serial_table.proofs.Living.{row_of}
+use Rattle.serial_table.proofs.Counting.{length_filtered, length_pushed, length_dropped, sum_more, sum_mapped}
+use Rattle.serial_table.proofs.Waits.{waits_of, concluded_waits, ending_waits, grows}
+use Rattle.serial_table.proofs.Losing.{to_lose, adds_bits, concluded_leases}
+use Rattle.serial_table.proofs.Callers.{IsCallerOf}
+use Rattle.serial_table.proofs.Numbered.{IsSessionUpTo}
+use Rattle.serial_table.proofs.EndingSessions.{death_fits}
+use Rattle.serial_table.proofs.Owing.{brings, begins, DecisionAdds, no_more_to_lose}
+use Rattle.serial_table.proofs.Along.{raise, raised_more, raised_own, KeptByCalls, KeptByDeaths, along_history}
+use Rattle.serial_table.proofs.Soundness.{IsReached, call_holds, call_fits, dying_fits, calls_reach, deaths_reach, start_reached}
 
--- ---- how many opens changes add
+-- ---- rows of opens, leases, ranges and holds
 
--- the opens that a change adds
-abbrev adds : Change → ℕ
-adds (AddOpen row) = 1
-adds (DropOpen file id) = 0
-adds (AddWaiter waiter) = 0
-adds (DropWaiter sid spot) = 0
-adds (DropWaiters spot) = 0
-adds (Send post) = 0
-adds Settle = 0
+opens-perform : (change : Change) (t : Table) → length (perform change t).opens ≤ length t.opens + brings change
+unfolding settle_where
+opens-perform (c.AddOpen o) t = omega (arith, length_pushed t.opens o)
+opens-perform (c.DropOpen file id) t = omega (arith, length_filtered (is_other_open file id) t.opens)
+opens-perform (c.TakeOver file id owner handle) t =
+    cond_both (list_any (is_of_handle owner handle) t.opens) t (record t { opens = map (new_owner file id owner handle) t.opens }) (λ (u : Table). length u.opens ≤ length t.opens + 0) (λ _. omega arith)
+    (λ _. omega (arith, length-map t.opens (new_owner file id owner handle)))
+opens-perform (c.EndSession sid moment) t = omega (arith, length_filtered (outlives sid) t.opens)
+opens-perform c.Settle t = omega (arith, length_filtered (row_stays (λ file. true) (view t)) t.opens)
+opens-perform (c.AddLease lease) t = omega arith
+opens-perform (c.AddRange range) t = omega arith
+opens-perform (c.AddHold hold) t = omega arith
+opens-perform _ t = omega arith
 
-length_filtered : {X : Type 0} (p : X → Bool) (xs : List X) → length (filter p xs) ≤ length xs
-length_filtered p xs = omega (arith, length-filter p xs, count_by-le-length p xs)
+leases-perform : (change : Change) (t : Table) → length (perform change t).leases ≤ length t.leases + brings change
+unfolding settle_where
+leases-perform (c.AddLease lease) t = omega (arith, length_pushed t.leases lease)
+leases-perform (c.SetLease file name held breaking) t = omega (arith, length-map t.leases (set_lease file name held breaking))
+leases-perform (c.Acknowledge file name state) t = omega (arith, length-map t.leases (set_lease file name state None))
+leases-perform (c.TakeOver file id owner handle) t =
+    cond_both (list_any (is_of_handle owner handle) t.opens) t (record t { opens = map (new_owner file id owner handle) t.opens }) (λ (u : Table). length u.leases ≤ length t.leases + 0) (λ _. omega arith) (λ _. omega arith)
+leases-perform c.Settle t =
+    omega (arith, length_filtered (lease_stays (λ file. true) (view t)) (map (lease_settles (λ file. true) (view t)) t.leases), length-map t.leases (lease_settles (λ file. true) (view t)))
+leases-perform _ t = omega arith
 
-opens-apply : (c : Change) (t : Table) → length (apply c t).opens ≤ length t.opens + adds c
-unfolding settle
-opens-apply (AddOpen row) t = omega (arith, length-append t.opens (row ∷ []))
-opens-apply (DropOpen file id) t = omega (arith, length_filtered (is_other_open file id) t.opens)
-opens-apply (AddWaiter waiter) t = omega arith
-opens-apply (DropWaiter sid spot) t = omega arith
-opens-apply (DropWaiters spot) t = omega arith
-opens-apply (Send post) t = omega arith
-opens-apply Settle t = omega (arith, length_filtered (keeps_open (view t)) t.opens)
+ranges-perform : (change : Change) (t : Table) → length (perform change t).ranges ≤ length t.ranges + brings change
+unfolding settle_where
+ranges-perform (c.AddRange range) t = omega (arith, length_pushed t.ranges range)
+ranges-perform (c.DropRange range) t = omega (arith, length_dropped (same_range range) t.ranges)
+ranges-perform (c.DropOpen file id) t = omega (arith, length_filtered (is_other_range file id) t.ranges)
+ranges-perform (c.TakeOver file id owner handle) t =
+    cond_both (list_any (is_of_handle owner handle) t.opens) t (record t { opens = map (new_owner file id owner handle) t.opens }) (λ (u : Table). length u.ranges ≤ length t.ranges + 0) (λ _. omega arith) (λ _. omega arith)
+ranges-perform (c.EndSession sid moment) t = omega (arith, length_filtered (range_outlives (view t) sid) t.ranges)
+ranges-perform c.Settle t = omega (arith, length_filtered (range_stays (λ file. true) (view t)) t.ranges)
+ranges-perform _ t = omega arith
 
-joined : (a b c m n both : ℕ) → b ≤ a + m → c ≤ b + n → both ≡ m + n → c ≤ a + both
-joined a b c m n both first later e = omega arith
+holds-perform : (change : Change) (t : Table) → length (perform change t).holds ≤ length t.holds + brings change
+unfolding settle_where
+holds-perform (c.AddHold hold) t = omega (arith, length_pushed t.holds hold)
+holds-perform (c.SetHold key owner mode) t = omega (arith, length-map t.holds (set_hold key owner mode))
+holds-perform (c.DropHold key owner) t = omega (arith, length_filtered (λ hold. not (is_hold key owner hold)) t.holds)
+holds-perform (c.TakeOver file id owner handle) t =
+    cond_both (list_any (is_of_handle owner handle) t.opens) t (record t { opens = map (new_owner file id owner handle) t.opens }) (λ (u : Table). length u.holds ≤ length t.holds + 0) (λ _. omega arith) (λ _. omega arith)
+holds-perform (c.EndSession sid moment) t = omega (arith, length_filtered (λ hold. not (same_sid hold.owner sid)) t.holds)
+holds-perform _ t = omega arith
 
-opens-apply_all : (cs : List Change) (t : Table) → length (apply_all cs t).opens ≤ length t.opens + sum_by adds cs
-opens-apply_all [] t = omega arith
-opens-apply_all (c ∷ cs) t =
-    joined (length t.opens) (length (apply c t).opens) (length (apply_all cs (apply c t)).opens) (adds c) (sum_by adds cs) (sum_by adds (c ∷ cs)) (opens-apply c t) (opens-apply_all cs (apply c t))
-    (sum_by-cons adds c cs)
+-- ---- workers and files that are to go
 
--- what the rules add to a decision adds no open
-adds-dropping : (spots : List Spot) (cs : List Change) → sum_by adds (map (λ spot. DropWaiters spot) spots ++ cs) ≡ sum_by adds cs
-adds-dropping [] cs = refl
-adds-dropping (spot ∷ spots) cs = omega (arith, adds-dropping spots cs)
+pub worker_count-perform : (change : Change) (t : Table) → length (perform change t).workers ≡ length t.workers
+unfolding settle_where
+worker_count-perform (c.TakeOver file id owner handle) t =
+    cond_both (list_any (is_of_handle owner handle) t.opens) t (record t { opens = map (new_owner file id owner handle) t.opens }) (λ (u : Table). length u.workers ≡ length t.workers) (λ _. refl) (λ _. refl)
+worker_count-perform (c.EndSession sid moment) t = length-map t.workers (end_session sid)
+worker_count-perform (c.NextSession sid moment) t = length-map t.workers (begin_session sid moment)
+worker_count-perform _ t = refl
 
-adds-waiting : (waits : Option WaiterRow) (cs : List Change) → sum_by adds (waits_now waits ++ cs) ≡ sum_by adds cs
-adds-waiting None cs = refl
-adds-waiting (Some waiter) cs = omega arith
+worker_count-perform_all : (cs : List Change) (t : Table) → length (perform_all cs t).workers ≡ length t.workers
+worker_count-perform_all [] t = refl
+worker_count-perform_all (change ∷ cs) t = worker_count-perform_all cs (perform change t) ∙ worker_count-perform change t
 
-adds-sending : (posts : List Post) → sum_by adds (map (λ post. Send post) posts) ≡ 0
-adds-sending [] = refl
-adds-sending (post ∷ posts) = omega (arith, adds-sending posts)
+pending-perform : (change : Change) (t : Table) → (perform change t).pending ≡ t.pending
+unfolding settle_where
+pending-perform (c.TakeOver file id owner handle) t =
+    cond_both (list_any (is_of_handle owner handle) t.opens) t (record t { opens = map (new_owner file id owner handle) t.opens }) (λ (u : Table). u.pending ≡ t.pending) (λ _. refl) (λ _. refl)
+pending-perform _ t = refl
 
-adds-finishing : (spots : List Spot) (waits : Option WaiterRow) (posts : List Post) → sum_by adds (finishing spots waits posts) ≡ 0
-adds-finishing spots waits posts =
-    adds-dropping spots (waits_now waits ++ map (λ post. Send post) posts) ∙ adds-waiting waits (map (λ post. Send post) posts) ∙ adds-sending posts
+pending-perform_all : (cs : List Change) (t : Table) → (perform_all cs t).pending ≡ t.pending
+pending-perform_all [] t = refl
+pending-perform_all (change ∷ cs) t = pending-perform_all cs (perform change t) ∙ pending-perform change t
 
-adds-conclude : (v : View) (d : Decision) → sum_by adds (conclude v d).changes ≡ sum_by adds d.changes
+-- ---- ended sessions, with the workers that live
+
+abbrev living : List WorkerRow → ℕ
+living workers = length (filter (λ (w : WorkerRow). w.alive) workers)
+
+abbrev ended_and_living : Table → ℕ
+ended_and_living t = length t.ended + living t.workers
+
+end_here : (b : Bool) (x y : WorkerRow) (xs ys : List WorkerRow) → (y.alive ≡ true → x.alive ≡ true) → length ys + cond b 1 0 ≤ length xs
+    → length (cond y.alive (y ∷ ys) ys) + cond b 1 0 ≤ length (cond x.alive (x ∷ xs) xs)
+end_here b x y xs ys h l = cases y.alive x.alive h
+  where
+    cases : (p q : Bool) → (p ≡ true → q ≡ true) → length (cond p (y ∷ ys) ys) + cond b 1 0 ≤ length (cond q (x ∷ xs) xs)
+    cases true true h = omega arith
+    cases true false h = absurd (both_ways false refl (h refl))
+    cases false true h = omega arith
+    cases false false h = l
+
+end_less : (sid : Sid) (w : WorkerRow) → (end_session sid w).alive ≡ true → w.alive ≡ true
+unfolding end_session
+end_less sid w = cond_both ((w.pid == sid.pid) && (w.session == sid.session)) (record w { alive = false }) w (λ (x : WorkerRow). x.alive ≡ true → w.alive ≡ true) (λ _ e. absurd cc) (λ _ e. e)
+
+none_more : (sid : Sid) (workers : List WorkerRow) → living (map (end_session sid) workers) + 0 ≤ living workers
+none_more sid [] = omega arith
+none_more sid (w ∷ ws) = end_here false w (end_session sid w) (filter (λ (w : WorkerRow). w.alive) ws) (filter (λ (w : WorkerRow). w.alive) (map (end_session sid) ws)) (end_less sid w) (none_more sid ws)
+
+ends_here : (x y : WorkerRow) (xs ys : List WorkerRow) → y.alive ≡ false → x.alive ≡ true → length ys + 0 ≤ length xs → length (cond y.alive (y ∷ ys) ys) + 1 ≤ length (cond x.alive (x ∷ xs) xs)
+ends_here x y xs ys ey ex l = cases y.alive x.alive ey ex
+  where
+    cases : (p q : Bool) → p ≡ false → q ≡ true → length (cond p (y ∷ ys) ys) + 1 ≤ length (cond q (x ∷ xs) xs)
+    cases false true f e = omega arith
+    cases false false f e = absurd (both_ways false refl e)
+    cases true q f e = absurd (both_ways true f refl)
+
+ended_dead : (sid : Sid) (w : WorkerRow) → ((w.pid == sid.pid) && (w.session == sid.session)) ≡ true → (end_session sid w).alive ≡ false
+unfolding end_session
+ended_dead sid w e =
+    cond_both ((w.pid == sid.pid) && (w.session == sid.session)) (record w { alive = false }) w (λ (x : WorkerRow). x.alive ≡ false) (λ _. refl) (λ f. absurd (both_ways ((w.pid == sid.pid) && (w.session == sid.session)) f e))
+
+-- one that lived doesn't any more
+one_less : (sid : Sid) (workers : List WorkerRow) (w : WorkerRow) → IsIn w workers → w.alive ≡ true → ((w.pid == sid.pid) && (w.session == sid.session)) ≡ true → living (map (end_session sid) workers) + 1 ≤ living workers
+one_less sid [] w i a e = absurd i
+one_less sid (x ∷ xs) w (inl h) a e =
+    ends_here x (end_session sid x) (filter (λ (w : WorkerRow). w.alive) xs) (filter (λ (w : WorkerRow). w.alive) (map (end_session sid) xs))
+    (ended_dead sid x (ap (λ (w : WorkerRow). (w.pid == sid.pid) && (w.session == sid.session)) h ∙ e)) (ap (λ (w : WorkerRow). w.alive) h ∙ a) (none_more sid xs)
+one_less sid (x ∷ xs) w (inr i) a e =
+    end_here true x (end_session sid x) (filter (λ (w : WorkerRow). w.alive) xs) (filter (λ (w : WorkerRow). w.alive) (map (end_session sid) xs)) (end_less sid x) (one_less sid xs w i a e)
+
+ended-perform : (change : Change) (t : Table) → length t.workers ≤ 64 → Fits change t → ended_and_living (perform change t) ≤ ended_and_living t + begins change
+unfolding settle_where
+ended-perform (c.EndSession sid moment) t few fit =
+    let row = row_of t.workers sid fit.lives in
+    omega (
+      arith,
+      length_pushed t.ended (end_at sid moment),
+      one_less sid t.workers row.0 row.1.within row.1.alive (and_from (row.0.pid == sid.pid) (row.0.session == sid.session) (eq-eqb row.0.pid sid.pid row.1.pid) (eq-eqb row.0.session sid.session row.1.session)),
+    )
+ended-perform (c.NextSession sid moment) t few fit =
+    omega (arith, length_filtered (λ (w : WorkerRow). w.alive) (map (begin_session sid moment) t.workers), length-map t.workers (begin_session sid moment))
+ended-perform (c.TakeOver file id owner handle) t few fit =
+    cond_both (list_any (is_of_handle owner handle) t.opens) t (record t { opens = map (new_owner file id owner handle) t.opens }) (λ (u : Table). ended_and_living u ≤ ended_and_living t + 0) (λ _. omega arith) (λ _. omega arith)
+ended-perform _ t few fit = omega arith
+
+ended-perform_all : (cs : List Change) (t : Table) → length t.workers ≤ 64 → AllFit cs t → ended_and_living (perform_all cs t) ≤ ended_and_living t + sum_by begins cs
+ended-perform_all [] t few fit = omega arith
+ended-perform_all (change ∷ cs) t few fit =
+    omega (arith, ended-perform change t few fit.0, ended-perform_all cs (perform change t) (let same : length (perform change t).workers ≡ length t.workers = worker_count-perform change t in omega arith) fit.1, sum_by-cons begins change cs)
+
+-- ---- what a decision comes to
+
+-- what is counted is none of what is added to a decision
+record IsOwn (adds : Change → ℕ) : Type 0 where
+  goes : (sid : Sid) (call : ℕ) → adds (c.DropWaiter sid call) ≡ 0
+  comes : (waiter : WaiterRow) → adds (c.AddWaiter waiter) ≡ 0
+  sent : (post : Post) → adds (c.Send post) ≡ 0
+  settles : adds c.Settle ≡ 0
+
+sum_waits : (adds : Change → ℕ) → IsOwn adds → (waits : Option WaiterRow) → sum_by adds (waits_now waits) ≡ 0
+sum_waits adds own None = refl
+sum_waits adds own (Some waiter) = omega (arith, own.comes waiter)
+
+sum-conclude : (adds : Change → ℕ) → IsOwn adds → (v : View) (d : Decision) → sum_by adds (conclude v d).changes ≡ sum_by adds d.changes
 unfolding conclude
-adds-conclude v d =
-    let ends = finishing (woken v d) d.waits (all_posts (change_all (settling d) v) d (woken v d)) in
+sum-conclude adds own v d =
+    let woken = woken_by v d in
+    let posts = d.posts ++ map wake woken in
+    let settle_none : sum_by adds (c.Settle ∷ []) ≡ 0 = omega (arith, sum_by-cons adds c.Settle [], own.settles) in
     omega (
       arith,
-      sum_by-append adds (settling d) ends,
-      sum_by-append adds d.changes (Settle ∷ []),
-      adds-finishing (woken v d) d.waits (all_posts (change_all (settling d) v) d (woken v d)),
+      sum_by-append adds (settling d) (finishing woken d.waits posts),
+      sum_by-append adds d.changes (c.Settle ∷ []),
+      sum_by-append adds (map waits_no_more woken) (waits_now d.waits ++ map (λ post. c.Send post) posts),
+      sum_by-append adds (waits_now d.waits) (map (λ post. c.Send post) posts),
+      sum_mapped adds waits_no_more (λ watch. own.goes watch.sid watch.call) woken,
+      sum_waits adds own d.waits,
+      sum_mapped adds (λ post. c.Send post) own.sent posts,
     )
 
--- ---- a call adds one open at most
+brings_own : IsOwn brings
+brings_own = record { goes = λ sid call. refl; comes = λ w. refl; sent = λ post. refl; settles = refl }
 
-adds-open : (b : Bool) (caller : Caller) (file : ℕ) (access : Access) (share : Share) → sum_by adds (cond b (refused caller file) (granted caller file access share)).changes ≤ 1
-adds-open true caller file access share = omega arith
-adds-open false caller file access share = omega arith
+begins_own : IsOwn begins
+begins_own = record { goes = λ sid call. refl; comes = λ w. refl; sent = λ post. refl; settles = refl }
 
-adds-close : (rows : List OpenRow) → sum_by adds (close_one rows).changes ≤ 1
-adds-close [] = omega arith
-adds-close (row ∷ rows) = omega arith
+-- ---- how large a table is, by the calls that were made
 
-adds-decide : (setup : Setup) (v : View) (caller : Caller) (call : Call) → sum_by adds (decide setup v caller call).changes ≤ 1
-unfolding open_file close
-adds-decide setup v caller (OpenFile file access share lease durable overwrite) = adds-open (list_any (conflicts access share) (v.opens_of file)) caller file access share
-adds-decide setup v caller (Close handle) = adds-close (v.opens_of_handle caller.sid handle)
-adds-decide setup v caller _ = omega arith
+-- the last numbers of all workers together
+abbrev total : Setup → (ℕ → ℕ) → ℕ
+total setup low = sum_by (λ (info : WorkerInfo). low info.pid) setup.workers
 
-opens-step : (setup : Setup) (t : Table) (caller : Caller) (call : Call) → length (step setup t caller call).table.opens ≤ length t.opens + 1
-opens-step setup t caller call =
-    omega (
-      arith,
-      opens-apply_all (outcome setup (view t) caller call).changes t,
-      adds-conclude (view t) (decide setup (view t) caller call),
-      adds-decide setup (view t) caller call,
-    )
+-- Each call brings two rows of a list at most, and of letters, waiters and bits that leases can lose four together: a waiter or a
+-- letter, and the bits of one state. A letter beyond that takes a bit from a lease.
+record IsSmall (setup : Setup) (low : ℕ → ℕ) (t : Table) : Type 0 where
+  opens : length t.opens ≤ 2 * total setup low
+  leases : length t.leases ≤ 2 * total setup low
+  ranges : length t.ranges ≤ 2 * total setup low
+  holds : length t.holds ≤ 2 * total setup low
+  waits : waits_of t + to_lose t.leases ≤ 4 * total setup low
+  ended : ended_and_living t ≤ 64 + 64 * total setup low
+  workers : length t.workers ≤ 64
+  pending : t.pending ≡ []
 
-opens-called : (setup : Setup) (t : Table) (o : Option Caller) (call : Call) → length (option_map_or (λ (s : Stepped). s.table) (option_map (λ caller. step setup t caller call) o) t).opens ≤ length t.opens + 1
-opens-called setup t None call = omega arith
-opens-called setup t (Some caller) call = opens-step setup t caller call
+declared_in : (infos : List WorkerInfo) (place : ℕ) (info : WorkerInfo) → slice_get infos place ≡ Some info → IsIn info infos
+declared_in [] place info e = absurd cc
+declared_in (first ∷ infos) zero info e = inl (some_same first info e)
+declared_in (first ∷ infos) (suc place) info e = inr (declared_in infos place info e)
 
-opens-after_event : (setup : Setup) (t : Table) (by : ℕ) (event : Event) → length (after_event setup t by event).opens ≤ length t.opens + length (call_number event)
-opens-after_event setup t by (Called number moment call reply) = opens-called setup t (caller_of setup (view t) by number moment) call
-opens-after_event setup t by (Died worker moment) = omega arith
-opens-after_event setup t by (Tidied chain) = omega arith
-
--- ---- sums over the numbers from 1 on
-
-abbrev sum_to : (ℕ → ℕ) → ℕ → ℕ
-sum_to f zero = 0
-sum_to f (suc n) = f (suc n) + sum_to f n
-
-sum_to_parts : (f g h : ℕ → ℕ) (n : ℕ) → ((k : ℕ) → h k ≡ f k + g k) → sum_to h n ≡ sum_to f n + sum_to g n
-sum_to_parts f g h zero e = refl
-sum_to_parts f g h (suc n) e = omega (arith, e (suc n), sum_to_parts f g h n e)
-
-term_here : (f : ℕ → ℕ) (n k : ℕ) → k ≤ suc n → (k ≤ n → f k ≤ sum_to f n) → (k < suc n) ⊎ (suc n ≤ k) → f k ≤ sum_to f (suc n)
-term_here f n k high later (inl h) = omega (arith, later (omega arith))
-term_here f n k high later (inr h) = let same : k ≡ suc n = omega arith in omega (arith, ap f same)
-
-sum_to_term : (f : ℕ → ℕ) (n k : ℕ) → 1 ≤ k → k ≤ n → f k ≤ sum_to f n
-sum_to_term f zero k low high = absurd (omega arith)
-sum_to_term f (suc n) k low high = term_here f n k high (sum_to_term f n k low) (cases_lt k (suc n))
-
-sum_to_most : (f : ℕ → ℕ) (n : ℕ) → ((k : ℕ) → f k ≤ 20000) → sum_to f n ≤ n * 20000
-sum_to_most f zero h = omega arith
-sum_to_most f (suc n) h = omega (arith, h (suc n), sum_to_most f n h)
-
--- ---- how many calls a worker makes
-
--- Where they rise above a number, they are at most as many as there are from there to 20,000.
-abbrev Fits : List ℕ → Type 0
-Fits numbers = (low : ℕ) → low ≤ 20000 → RisesAbove low numbers → low + length numbers ≤ 20000
-
-fits_number : (number : ℕ) (rest : List ℕ) → number ≤ 20000 → Fits rest → Fits (number ∷ rest)
-fits_number number rest most later low l rises =
-    let more : number + length rest ≤ 20000 = later number most rises.1 in
-    let above : low < number = rises.0 in
-    omega arith
-
-fits_own : (b : Bool) (own rest : List ℕ) → Fits (own ++ rest) → Fits rest → Fits (cond b own [] ++ rest)
-fits_own true own rest h later = h
-fits_own false own rest h later = later
-
-fits_event : (setup : Setup) (t : Table) (b : Bool) (by : ℕ) (event : Event) (rest : List ℕ) → IsLegalEvent setup t by event → Fits rest → Fits (cond b (call_number event) [] ++ rest)
-fits_event setup t b by (Called number moment call reply) rest legal later = fits_own b (number ∷ []) rest (fits_number number rest legal.numbered.1 later) later
-fits_event setup t b by (Died worker moment) rest legal later = absurd (let none = legal.1 in cc)
-fits_event setup t b by (Tidied chain) rest legal later = fits_own b [] rest later later
-
-numbers_fit : (setup : Setup) (t : Table) (worker : ℕ) (history : List Entry) → AreLegal setup t history → Fits (numbers_of worker history)
-numbers_fit setup t worker [] legal = λ low l rises. omega arith
-numbers_fit setup t worker (entry ∷ entries) legal =
-    fits_event setup t (entry.by == worker) entry.by entry.what (numbers_of worker entries) legal.0 (numbers_fit setup (after_entry setup t entry) worker entries legal.1)
-
--- ---- who calls is declared
-
-declared_within : (infos : List WorkerInfo) (worker : ℕ) (info : WorkerInfo) → declared_at infos worker ≡ Some info → IsDeclared infos worker
+pub declared_within : (infos : List WorkerInfo) (worker : ℕ) (info : WorkerInfo) → declared_at infos worker ≡ Some info → IsIn info infos
 declared_within infos zero info e = absurd cc
-declared_within infos (suc place) info e = let within : place < length infos = slice_get_within infos place info e in (omega arith, omega arith)
+declared_within infos (suc place) info e = declared_in infos place info e
 
-by_info : (infos : List WorkerInfo) (v : View) (worker number : ℕ) (moment : Moment) (caller : Caller) (o : Option WorkerInfo) → declared_at infos worker ≡ o
-    → option_and_then (λ info. option_and_then (caller_if_alive info number moment) (v.worker_of info.pid)) o ≡ Some caller → IsDeclared infos worker
-by_info infos v worker number moment caller None d e = absurd cc
-by_info infos v worker number moment caller (Some info) d e = declared_within infos worker info d
+total_more : (setup : Setup) (low : ℕ → ℕ) (t : Table) (by number : ℕ) (moment : Moment) (caller : Caller) → IsCallerOf setup t by number moment caller → low caller.sid.pid < number
+    → total setup low + 1 ≤ total setup (raise low caller.sid.pid number)
+total_more setup low t by number moment caller of above =
+    let high = raise low caller.sid.pid number in
+    let own : high caller.sid.pid ≡ number = raised_own low caller.sid.pid number in
+    let rises : low caller.sid.pid < high caller.sid.pid = omega arith in
+    sum_more (λ info. low info.pid) (λ info. high info.pid) (λ info. raised_more low caller.sid.pid number above info.pid) setup.workers of.info (declared_within setup.workers by of.info of.declared)
+    (subst (λ pid. low pid < high pid) of.pid rises)
 
-caller_is_declared : (setup : Setup) (v : View) (worker number : ℕ) (moment : Moment) (caller : Caller) → caller_of setup v worker number moment ≡ Some caller → IsDeclared setup.workers worker
-unfolding caller_of
-caller_is_declared setup v worker number moment caller e = by_info setup.workers v worker number moment caller (declared_at setup.workers worker) refl e
+-- ---- what a decision keeps small
 
--- a legal call is among those of the declared workers
-call_counted : (setup : Setup) (t : Table) (by : ℕ) (event : Event) → IsLegalEvent setup t by event
-    → length (call_number event) ≤ sum_to (λ k. length (cond (by == k) (call_number event) [])) (length setup.workers)
-call_counted setup t by (Called number moment call reply) legal =
-    let declared : IsDeclared setup.workers by = caller_is_declared setup (view t) by number moment legal.answered.caller legal.answered.is_caller in
-    let own : length (cond (by == by) (number ∷ []) []) ≡ 1 = ap (λ b. length (cond b (number ∷ []) [])) (eq-eqb by by refl) in
-    let among : length (cond (by == by) (number ∷ []) []) ≤ sum_to (λ k. length (cond (by == k) (number ∷ []) [])) (length setup.workers) =
-    sum_to_term (λ k. length (cond (by == k) (number ∷ []) [])) (length setup.workers) by declared.0 declared.1 in
-    omega arith
-call_counted setup t by (Died worker moment) legal = absurd (let none = legal.1 in cc)
-call_counted setup t by (Tidied chain) legal = omega arith
+small_after : (setup : Setup) (low high : ℕ → ℕ) (t : Table) (d : Decision) (n : ℕ) → DecisionAdds t d n → total setup low + n ≤ total setup high → AllFit (conclude (view t) d).changes t → IsSmall setup low t
+    → IsSmall setup high (perform_all (conclude (view t) d).changes t)
+small_after setup low high t d n adds more fit small =
+    let cs = (conclude (view t) d).changes in
+    let rows : sum_by brings cs ≤ 2 * n = omega (arith, sum-conclude brings brings_own (view t) d, adds.rows) in
+    let sessions : sum_by begins cs ≤ 64 * n = omega (arith, sum-conclude begins begins_own (view t) d, adds.sessions) in
+    record {
+      opens = omega (arith, grows (λ u. length u.opens) brings opens-perform cs t, small.opens);
+      leases = omega (arith, grows (λ u. length u.leases) brings leases-perform cs t, small.leases);
+      ranges = omega (arith, grows (λ u. length u.ranges) brings ranges-perform cs t, small.ranges);
+      holds = omega (arith, grows (λ u. length u.holds) brings holds-perform cs t, small.holds);
+      waits = omega (arith, concluded_waits t d adds.spots, ap to_lose (concluded_leases t d), adds.waits, small.waits);
+      ended = omega (arith, ended-perform_all cs t small.workers fit, small.ended);
+      workers = omega (arith, worker_count-perform_all cs t, small.workers);
+      pending = pending-perform_all cs t ∙ small.pending;
+    }
 
--- ---- the opens of a history
+-- a death
+sum_ending : (adds : Change → ℕ) → IsOwn adds → (t : Table) (sid : Sid) (moment : Moment) → adds (c.EndSession sid moment) ≡ 0 → sum_by adds (end_of_session (view t) sid moment []).changes ≡ 0
+unfolding end_of_session
+sum_ending adds own t sid moment e =
+    omega (
+      arith,
+      sum_by-append adds (map waits_no_more ((view t).watches_behind sid)) (c.EndSession sid moment ∷ []),
+      sum_mapped adds waits_no_more (λ watch. own.goes watch.sid watch.call) ((view t).watches_behind sid),
+      sum_by-cons adds (c.EndSession sid moment) [],
+    )
 
-grown : (a b c m n calls more : ℕ) → b ≤ a + m → m ≤ n → c ≤ b + more → calls ≡ n + more → c ≤ a + calls
-grown a b c m n calls more first counted later parts = omega arith
+bits_own : IsOwn adds_bits
+bits_own = record { goes = λ sid call. refl; comes = λ w. refl; sent = λ post. refl; settles = refl }
 
-opens-after_all : (setup : Setup) (t : Table) (history : List Entry) → AreLegal setup t history
-    → length (after_all setup t history).opens ≤ length t.opens + sum_to (λ k. length (numbers_of k history)) (length setup.workers)
-opens-after_all setup t [] legal = omega arith
-opens-after_all setup t (entry ∷ entries) legal =
-    grown (length t.opens) (length (after_entry setup t entry).opens) (length (after_all setup (after_entry setup t entry) entries).opens) (length (call_number entry.what))
-    (sum_to (λ k. length (own_number k entry)) (length setup.workers)) (sum_to (λ k. length (numbers_of k (entry ∷ entries))) (length setup.workers))
-    (sum_to (λ k. length (numbers_of k entries)) (length setup.workers))
-    (opens-after_event setup t entry.by entry.what) (call_counted setup t entry.by entry.what legal.0) (opens-after_all setup (after_entry setup t entry) entries legal.1)
-    (sum_to_parts (λ k. length (own_number k entry)) (λ k. length (numbers_of k entries)) (λ k. length (numbers_of k (entry ∷ entries))) (length setup.workers)
-    (λ k. length-append (own_number k entry) (numbers_of k entries)))
+ending_adds : (t : Table) (sid : Sid) (moment : Moment) → IsConsistent t → AllFit (end_of_session (view t) sid moment []).changes t → DecisionAdds t (end_of_session (view t) sid moment []) 0
+unfolding end_of_session IsDistinct
+ending_adds t sid moment k fit = record {
+  rows = omega (arith, sum_ending brings brings_own t sid moment refl);
+  sessions = omega (arith, sum_ending begins begins_own t sid moment refl);
+  waits = (let none : sum_by adds_bits (end_of_session (view t) sid moment []).changes ≤ 0 = omega (arith, sum_ending adds_bits bits_own t sid moment refl) in omega (arith, ending_waits t sid moment [] (omega arith), no_more_to_lose t (end_of_session (view t) sid moment []) k fit none));
+  spots = tt;
+}
 
--- 64 workers with 20,000 calls each
-few_opens : (setup : Setup) (history : List Entry) → IsSetup setup → IsLegal setup history → length (after setup history).opens ≤ 1280000
-few_opens setup history s legal =
-    let fit : (k : ℕ) → length (numbers_of k history) ≤ 20000 =
-    λ k. let h : 0 + length (numbers_of k history) ≤ 20000 = numbers_fit setup (start setup) k history legal.entries 0 (omega arith) (legal.rising k) in omega arith in
-    let calls : sum_to (λ k. length (numbers_of k history)) (length setup.workers) ≤ length setup.workers * 20000 =
-    sum_to_most (λ k. length (numbers_of k history)) (length setup.workers) fit in
-    let made : length (after setup history).opens ≤ 0 + sum_to (λ k. length (numbers_of k history)) (length setup.workers) = opens-after_all setup (start setup) history legal.entries in
-    let workers : length setup.workers ≤ 64 = s.few_workers in
-    omega arith
+-- ---- what each event keeps
 
--- ---- no session ends
+-- reached, and small
+record IsCounted (setup : Setup) (low : ℕ → ℕ) (t : Table) : Type 0 where
+  reached : IsReached low t
+  small : IsSmall setup low t
 
-ended-apply : (c : Change) (t : Table) → (apply c t).ended ≡ t.ended
-unfolding settle
-ended-apply (AddOpen row) t = refl
-ended-apply (DropOpen file id) t = refl
-ended-apply (AddWaiter waiter) t = refl
-ended-apply (DropWaiter sid spot) t = refl
-ended-apply (DropWaiters spot) t = refl
-ended-apply (Send post) t = refl
-ended-apply Settle t = refl
+calls_count : (setup : Setup) → KeptByCalls setup (IsCounted setup)
+calls_count setup low t by number moment call reply caller k legal of above = record {
+  reached = calls_reach setup low t by number moment call reply caller k.reached legal of above;
+  small = small_after setup low (raise low caller.sid.pid number) t (decide setup (view t) caller call) 1 (call_holds setup low t by number moment call reply caller k.reached legal of above).adds (total_more setup low t by number moment caller of above)
+      (call_fits setup low t by number moment call reply caller k.reached legal of above) k.small;
+}
 
-ended-apply_all : (cs : List Change) (t : Table) → (apply_all cs t).ended ≡ t.ended
-ended-apply_all [] t = refl
-ended-apply_all (c ∷ cs) t = ended-apply_all cs (apply c t) ∙ ended-apply c t
+deaths_count : (setup : Setup) → KeptByDeaths setup (IsCounted setup)
+deaths_count setup low t worker moment caller k timed of = record {
+  reached = deaths_reach setup low t worker moment caller k.reached timed of;
+  small = small_after setup low low t (end_of_session (view t) caller.sid moment []) 0 (ending_adds t caller.sid moment k.reached.consistent (death_fits t caller.sid moment k.reached.consistent of.alive).changes) (omega arith) (dying_fits low t caller moment k.reached of.alive) k.small;
+}
 
-ended-called : (setup : Setup) (t : Table) (o : Option Caller) (call : Call) → (option_map_or (λ (s : Stepped). s.table) (option_map (λ caller. step setup t caller call) o) t).ended ≡ t.ended
-ended-called setup t None call = refl
-ended-called setup t (Some caller) call = ended-apply_all (outcome setup (view t) caller call).changes t
-
-ended-after_event : (setup : Setup) (t : Table) (by : ℕ) (event : Event) → (after_event setup t by event).ended ≡ t.ended
-ended-after_event setup t by (Called number moment call reply) = ended-called setup t (caller_of setup (view t) by number moment) call
-ended-after_event setup t by (Died worker moment) = refl
-ended-after_event setup t by (Tidied chain) = refl
-
-ended-after_all : (setup : Setup) (t : Table) (history : List Entry) → (after_all setup t history).ended ≡ t.ended
-ended-after_all setup t [] = refl
-ended-after_all setup t (entry ∷ entries) = ended-after_all setup (after_entry setup t entry) entries ∙ ended-after_event setup t entry.by entry.what
-
--- ---- the workers at the start
+-- ---- a whole history
 
 length-start_workers : (n : ℕ) (infos : List WorkerInfo) → length (start_workers n infos) ≡ length infos
 length-start_workers n [] = refl
 length-start_workers n (info ∷ infos) = ap suc (length-start_workers (suc n) infos)
 
-first_sessions : (n : ℕ) (infos : List WorkerInfo) → AllByRecursion (λ (worker : WorkerRow). IsSession worker.session) (start_workers n infos)
-first_sessions n [] = tt
-first_sessions n (info ∷ infos) = (omega arith, first_sessions (suc n) infos)
-
--- ---- the whole table
-
-module _ {X : Type 0} where
-  no_rows : (xs : List X) → xs ≡ [] → length xs < 2 ^ 32
-  no_rows xs e = let none : length xs ≡ 0 = ap length e in omega arith
-
-  all_none : (P : X → Type 0) (xs : List X) → xs ≡ [] → AllByRecursion P xs
-  all_none P xs e = subst (AllByRecursion P) (sym e) tt
-
-quiet_is_bounded : (setup : Setup) (t : Table) → IsSetup setup → IsQuiet setup t → length t.opens ≤ 1280000 → t.ended ≡ [] → IsBounded t
-quiet_is_bounded setup t s h few ended =
-    let workers : length t.workers ≡ length setup.workers = ap length h.workers ∙ length-start_workers 1 setup.workers in
+start_counted : (setup : Setup) → IsSetup setup → IsCounted setup (λ pid. 0) (start setup)
+start_counted setup s =
+    let few : length (start setup).workers ≤ 64 = omega (arith, length-start_workers 1 setup.workers, s.few_workers) in
     record {
-      opens = omega arith;
-      leases = no_rows t.leases h.leases;
-      ranges = no_rows t.ranges h.ranges;
-      holds = no_rows t.holds h.holds;
-      waiters = no_rows t.waiters h.waiters;
-      letters = no_rows t.letters h.letters;
-      workers = omega (arith, s.few_workers);
-      ended = no_rows t.ended ended;
-      sessions = subst (AllByRecursion (λ (worker : WorkerRow). IsSession worker.session)) (sym h.workers) (first_sessions 1 setup.workers);
-      ended_sessions = all_none (λ row. IsSession row.sid.session) t.ended ended;
-      owners = all_weaker (λ (row : OpenRow). row.owner.session ≡ 1) (λ row. IsSession row.owner.session) (λ row first. omega arith) t.opens h.owners;
-      holders = all_none (λ hold. IsSession hold.owner.session) t.holds h.holds;
-      waiting = all_none (λ waiter. IsSession waiter.sid.session) t.waiters h.waiters;
-      blockers = all_none (λ waiter. IfSome waiter.blocker (λ sid. IsSession sid.session)) t.waiters h.waiters;
-      receivers = all_none (λ post. IsSession post.to.session) t.letters h.letters;
+      reached = start_reached setup s;
+      small = record {
+        opens = omega arith;
+        leases = omega arith;
+        ranges = omega arith;
+        holds = omega arith;
+        waits = omega arith;
+        ended = omega (arith, length_filtered (λ (w : WorkerRow). w.alive) (start setup).workers);
+        workers = few;
+        pending = refl;
+      };
+    }
+
+counted_is_bounded : (setup : Setup) (low : ℕ → ℕ) (t : Table) → IsSetup setup → IsCounted setup low t → IsBounded t
+counted_is_bounded setup low t s k =
+    let most : total setup low ≤ length setup.workers * 20000 = sum_by-le (λ (info : WorkerInfo). low info.pid) 20000 setup.workers (λ place d h. k.reached.few _) in
+    let few : length setup.workers ≤ 64 = s.few_workers in
+    let n = k.reached.numbered in
+    let session : (sid : Sid) → IsSessionUpTo low sid → IsSession sid.session = λ sid e. let l : low sid.pid ≤ 20000 = k.reached.few sid.pid in omega arith in
+    record {
+      opens = omega (arith, k.small.opens);
+      leases = omega (arith, k.small.leases);
+      ranges = omega (arith, k.small.ranges);
+      holds = omega (arith, k.small.holds);
+      waiters = omega (arith, k.small.waits);
+      letters = omega (arith, k.small.waits);
+      workers = omega (arith, k.small.workers);
+      ended = omega (arith, k.small.ended);
+      pending = omega (arith, ap length k.small.pending);
+      sessions = all_by (λ worker. IsSession worker.session) t.workers (λ w i. let l : low w.pid ≤ 20000 = k.reached.few w.pid in let up : w.session ≤ low w.pid + 1 = n.workers w i in omega arith);
+      ended_sessions = all_by (λ row. IsSession row.sid.session) t.ended (λ row i. session row.sid (n.ended row i));
+      owners = all_by (λ o. IsSession o.owner.session) t.opens (λ o i. session o.owner (n.opens o i).owner);
+      holders = all_by (λ hold. IsSession hold.owner.session) t.holds (λ hold i. session hold.owner (n.holds hold i));
+      waiting = all_by (λ w. IsSession w.sid.session) t.waiters (λ w i. session w.sid (n.waiters w i).sid);
+      blockers = all_by (λ w. IfSome w.blocker (λ sid. IsSession sid.session)) t.waiters (λ w i. IfSome_then w.blocker (n.waiters w i).blocker session);
+      receivers = all_by (λ post. IsSession post.to.session) t.letters (λ post i. session post.to (n.letters post i));
     }
 
 pub legal_is_bounded : (setup : Setup) (history : List Entry) → IsSetup setup → IsLegal setup history → IsBounded (after setup history)
 legal_is_bounded setup history s legal =
-    quiet_is_bounded setup (after setup history) s (legal_is_quiet setup history s legal) (few_opens setup history s legal) (ended-after_all setup (start setup) history)
+    let counted = along_history setup s (IsCounted setup) (calls_count setup) (deaths_count setup) (λ pid. 0) (start setup) history (start_counted setup s) legal.entries (λ worker info d. legal.rising worker) in
+    counted_is_bounded setup counted.0 (after setup history) s counted.1

@@ -1,399 +1,183 @@
--- Legal histories of the served calls keep the table sound.
-use Rattle.std.proofs.Common.{◌≡◌, ◌==◌, ℕ, ◌<◌, Bool, true, false, cond, not, ◌&&◌, ◌||◌, List, [], ◌∷◌, ◌++◌, filter, map, Some, None, refl, sym, ap, ◌∙◌, subst, append_assoc, append-nil, find, arith, eq-eqb}
-use Rattle.std.specs.Prelude.{is_some}
-use Rattle.std.specs.List.{AllByRecursion, IsDistinct, list_any, list_all}
-use Rattle.std.specs.Option.{option_map, option_map_or}
-use Rattle.std.proofs.lemmas.Bool.{eqb-true}
-use Rattle.std.proofs.lemmas.Grind.{flat_map-append}
-use Rattle.sid_core.specs.declared.bits.Access.{Access}
-use Rattle.sid_core.specs.declared.bits.Share.{Share}
+-- The tables of legal histories are sound.
+use Rattle.std.proofs.Common.{map, ◌≡◌, ◌==◌, ◌≤◌, ◌<◌, ◌+◌, ℕ, suc, true, false, List, [], ◌∷◌, refl, sym, ap, subst, arith, inl, inr}
+use Rattle.std.specs.Prelude.{nat_eq}
+use Rattle.std.specs.List.{AllByRecursion, IsDistinct}
+use Rattle.std.proofs.lemmas.Bool.{cond_both}
 use Rattle.sid_core.specs.declared.ids.Moment.{Moment}
-use Rattle.sid_core.specs.declared.ids.OpenId.{OpenId}
-use Rattle.sid_core.specs.declared.ids.Sid.{Sid}
-use Rattle.sid_core.specs.declared.ids.Spot.{Spot}
-use Rattle.sid_core.specs.declared.ids.Spot.TheVariants.{OpenOf}
-use Rattle.sid_core.specs.declared.entry.Entry.{Entry}
-use Rattle.sid_core.specs.declared.entry.Event.{Event}
-use Rattle.sid_core.specs.declared.entry.Event.TheVariants.{Called, Died, Tidied}
 use Rattle.sid_core.specs.declared.call.Call.{Call}
-use Rattle.sid_core.specs.declared.call.Call.TheVariants.{OpenFile, Close, Ack, Lock, Unlock, Read, Write, GLock, GUnlock, Recv, Disconnect, Reconnect, Scavenge, Tidy, Status}
 use Rattle.sid_core.specs.declared.reply.Reply.{Reply}
+use Rattle.sid_core.specs.declared.entry.Entry.{Entry}
 use Rattle.sid_core.specs.declared.setup.Setup.{Setup}
 use Rattle.sid_core.specs.declared.setup.WorkerInfo.{WorkerInfo}
-use Rattle.sid_core.specs.Ids.{same_spot, same_name}
 use Rattle.sid_core.specs.Setup.{IsSetup}
-use Rattle.serial_table.specs.declared.rows.OpenRow.{OpenRow}
+use Rattle.serial_table.specs.declared.rows.WorkerRow.{WorkerRow}
 use Rattle.serial_table.specs.declared.table.Table.{Table}
-use Rattle.serial_table.specs.declared.change.Change.TheVariants.{AddOpen, DropOpen, DropWaiter, DropWaiters, Settle}
+use Rattle.serial_table.specs.declared.change.Change.{Change}
+use Rattle.serial_table.specs.declared.change.Change.TheVariants as c
 use Rattle.serial_table.specs.declared.decision.Caller.{Caller}
-use Rattle.serial_table.specs.declared.decision.Decision.{Decision}
-use Rattle.serial_table.specs.declared.decision.Stepped.{Stepped}
-use Rattle.serial_table.specs.View.{View, view, lives, is_connected}
-use Rattle.serial_table.specs.Settle.{settle}
-use Rattle.serial_table.specs.Change.{apply, apply_all, change_all, is_other_open, is_other_range, is_other_wait, waits_elsewhere}
-use Rattle.serial_table.specs.Wake.{wake, wakes}
-use Rattle.serial_table.specs.Decision.{settling, finishing, woken, all_posts, conclude}
-use Rattle.serial_table.specs.Open.{conflicts, new_open, granted, refused, open_file}
-use Rattle.serial_table.specs.Close.{close, close_one}
-use Rattle.serial_table.specs.Decide.{decide, is_served}
-use Rattle.serial_table.specs.Step.{declared_at, step}
-use Rattle.serial_table.specs.History.{start, start_workers, called, after_event, after_entry, after_all, after, IsLegalEvent, AreLegal, IsLegal, own_number, numbers_of, RisesAbove}
-use Rattle.serial_table.specs.Sound.{IsSound, have_same_id, have_same_handle, have_same_name, has_its_lease, holds_handle, is_leased_if_durable, may_stay, has_open, is_sound_lease, has_its_open, waits_among_living, cannot_both_hold, cannot_both_wait}
-use Rattle.serial_table.proofs.Differing.{all_filtered, all_pushed, all_weaker, distinct_none, distinct_filtered, distinct_pushed, all_true, is_among, is_below, among_more, among_last}
-use Rattle.std.proofs.Math.Bool.{and-false}
-use Rattle.serial_table.proofs.Settling.{settle_without_leases}
-use Rattle.serial_table.proofs.Views.{view-apply_all}
-use Rattle.serial_table.proofs.Woken.{apply_all-append}
-use Rattle.serial_table.proofs.Workers.{IsFirstCaller, first_caller, worker_lives, one_worker}
+use Rattle.serial_table.specs.View.{view, lives}
+use Rattle.serial_table.specs.Change.{perform_all}
+use Rattle.serial_table.specs.Decision.{waits_no_more, conclude}
+use Rattle.serial_table.specs.Session.{end_of_session}
+use Rattle.serial_table.specs.Decide.{decide, outcome}
+use Rattle.serial_table.specs.History.{start, start_workers, after, IsLegalCall, IsLegal}
+use Rattle.serial_table.specs.Sound.{have_same_pid, IsConsistent, IsSound, AllAlong, AllFit}
+use Rattle.serial_table.proofs.Members.{IsIn}
+use Rattle.serial_table.proofs.Consistent.{consistent-perform_all}
+use Rattle.serial_table.proofs.SettledSound.{settled-sound}
+use Rattle.serial_table.proofs.Concluding.{start-settled, after_all-settled}
+use Rattle.serial_table.proofs.Fitting.{conclude_fits, along_append, along_mapped, kept_along, conclude_along}
+use Rattle.serial_table.proofs.Callers.{IsCallerOf}
+use Rattle.serial_table.proofs.Numbered.{IsNumbered, Numbers, numbered_more, numbered-perform}
+use Rattle.serial_table.proofs.EndingSessions.{death_fits}
+use Rattle.serial_table.proofs.Owing.{IsCalling, DecisionHolds, fresh_above}
+use Rattle.serial_table.proofs.CallsOwed.{decided_holds}
+use Rattle.serial_table.proofs.Living.{row_of}
+use Rattle.serial_table.proofs.Along.{raise, raised_more, raised_own, KeptByCalls, KeptByDeaths, along_history}
 
--- ---- tables that the served calls make
+-- ---- the numbers that decisions bring
 
--- an open without lease, of a session 1, made by a call of this history
-record IsPlainOpen (setup : Setup) (history : List Entry) (row : OpenRow) : Type 0 where
-  lease : row.lease ≡ None
-  durable : row.durable ≡ 0
-  session : row.owner.session ≡ 1
-  owner : row.owner.pid ≡ row.id.pid
-  handle : row.handle ≡ row.id.call
-  worker : ℕ
-  info : WorkerInfo
-  declared : declared_at setup.workers worker ≡ Some info
-  pid : info.pid ≡ row.id.pid
-  made : is_among row.id.call (numbers_of worker history) ≡ true
+ending_numbers : (low : ℕ → ℕ) (t : Table) (caller : Caller) (moment : Moment) → AllAlong (Numbers low) (end_of_session (view t) caller.sid moment []).changes t
+unfolding end_of_session
+ending_numbers low t caller moment =
+    along_append (Numbers low) _ (c.EndSession caller.sid moment ∷ []) t (along_mapped (Numbers low) waits_no_more ((view t).watches_behind caller.sid) t (λ watch i u. tt)) (tt, tt)
 
-record IsPlain (setup : Setup) (history : List Entry) (t : Table) : Type 0 where
-  leases : t.leases ≡ []
-  ranges : t.ranges ≡ []
-  holds : t.holds ≡ []
-  waiters : t.waiters ≡ []
-  letters : t.letters ≡ []
-  workers : t.workers ≡ start_workers 1 setup.workers
-  opens : AllByRecursion (IsPlainOpen setup history) t.opens
-  ids : IsDistinct have_same_id t.opens
+-- ---- what each event keeps
 
-open_more : (setup : Setup) (history more : List Entry) (row : OpenRow) → IsPlainOpen setup history row → IsPlainOpen setup (history ++ more) row
-open_more setup history more row h = record {
-  lease = h.lease;
-  durable = h.durable;
-  session = h.session;
-  owner = h.owner;
-  handle = h.handle;
-  worker = h.worker;
-  info = h.info;
-  declared = h.declared;
-  pid = h.pid;
-  made = ap (is_among row.id.call) (flat_map-append (own_number h.worker) history more) ∙ among_more row.id.call (numbers_of h.worker history) (numbers_of h.worker more) h.made;
+-- consistent, with numbers of calls that were made
+pub record IsReached (low : ℕ → ℕ) (t : Table) : Type 0 where
+  pub consistent : IsConsistent t
+  pub numbered : IsNumbered low t
+  pub few : (pid : ℕ) → low pid ≤ 20000
+
+reached_by : (low : ℕ → ℕ) (cs : List Change) (t : Table) → IsReached low t → AllFit cs t → AllAlong (Numbers low) cs t → IsReached low (perform_all cs t)
+reached_by low cs t r fit own = record {
+  consistent = consistent-perform_all cs t r.consistent fit;
+  numbered = kept_along (IsNumbered low) (Numbers low) (λ change u. numbered-perform low change u) cs t r.numbered fit own;
+  few = r.few;
 }
 
-plain_more : (setup : Setup) (history more : List Entry) (t : Table) → IsPlain setup history t → IsPlain setup (history ++ more) t
-plain_more setup history more t h = record {
-  leases = h.leases;
-  ranges = h.ranges;
-  holds = h.holds;
-  waiters = h.waiters;
-  letters = h.letters;
-  workers = h.workers;
-  ids = h.ids;
-  opens = all_weaker (IsPlainOpen setup history) (IsPlainOpen setup (history ++ more)) (open_more setup history more) t.opens h.opens;
+pub reached_more : (low : ℕ → ℕ) (pid number : ℕ) (t : Table) → IsReached low t → low pid < number → number ≤ 20000 → IsReached (raise low pid number) t
+reached_more low pid number t r above most = record {
+  consistent = r.consistent;
+  numbered = numbered_more low (raise low pid number) (raised_more low pid number above) t r.numbered;
+  few = λ other. cond_both (other == pid) number (low other) (λ n. n ≤ 20000) (λ _. most) (λ _. r.few other);
 }
 
-module _ (setup : Setup) (history : List Entry) where
-  drops_waiter : (t : Table) (sid : Sid) (spot : Spot) → IsPlain setup history t → IsPlain setup history (apply (DropWaiter sid spot) t)
-  drops_waiter t sid spot h = record {
-    leases = h.leases;
-    ranges = h.ranges;
-    holds = h.holds;
-    letters = h.letters;
-    workers = h.workers;
-    opens = h.opens;
-    ids = h.ids;
-    waiters = ap (filter (is_other_wait sid spot)) h.waiters;
-  }
+-- a living session is at most one above the number of its worker's calls
+pub session_by : (low : ℕ → ℕ) (t : Table) (caller : Caller) → IsNumbered low t → lives (view t) caller.sid ≡ true → caller.sid.session ≤ low caller.sid.pid + 1
+session_by low t caller n alive =
+    let row = row_of t.workers caller.sid alive in
+    let up : row.0.session ≤ low row.0.pid + 1 = n.workers row.0 row.1.within in
+    let same : low row.0.pid ≡ low caller.sid.pid = ap low row.1.pid in
+    let session : row.0.session ≡ caller.sid.session = row.1.session in
+    omega arith
 
-  drops_waiters : (t : Table) (spot : Spot) → IsPlain setup history t → IsPlain setup history (apply (DropWaiters spot) t)
-  drops_waiters t spot h = record {
-    leases = h.leases;
-    ranges = h.ranges;
-    holds = h.holds;
-    letters = h.letters;
-    workers = h.workers;
-    opens = h.opens;
-    ids = h.ids;
-    waiters = ap (filter (waits_elsewhere spot)) h.waiters;
-  }
-
-  drops_all : (spots : List Spot) (t : Table) → IsPlain setup history t → IsPlain setup history (apply_all (map (λ spot. DropWaiters spot) spots ++ []) t)
-  drops_all [] t h = h
-  drops_all (spot ∷ spots) t h = drops_all spots (apply (DropWaiters spot) t) (drops_waiters t spot h)
-
-  settles : (t : Table) → IsPlain setup history t → IsPlain setup history (settle t)
-  settles t h = subst (IsPlain setup history) (sym (settle_without_leases t h.leases)) h
-
-  drops_open : (t : Table) (file : ℕ) (id : OpenId) → IsPlain setup history t → IsPlain setup history (apply (DropOpen file id) t)
-  drops_open t file id h = record {
-    leases = h.leases;
-    holds = h.holds;
-    waiters = h.waiters;
-    letters = h.letters;
-    workers = h.workers;
-    ranges = ap (filter (is_other_range file id)) h.ranges;
-    opens = all_filtered (IsPlainOpen setup history) (is_other_open file id) t.opens h.opens;
-    ids = distinct_filtered have_same_id (is_other_open file id) t.opens h.ids;
-  }
-
-  adds_open : (t : Table) (row : OpenRow) → IsPlain setup history t → IsPlainOpen setup history row → AllByRecursion (λ other. have_same_id other row ≡ false) t.opens → IsPlain setup history (apply (AddOpen row) t)
-  adds_open t row h plain others = record {
-    leases = h.leases;
-    ranges = h.ranges;
-    holds = h.holds;
-    waiters = h.waiters;
-    letters = h.letters;
-    workers = h.workers;
-    opens = all_pushed (IsPlainOpen setup history) t.opens row h.opens plain;
-    ids = distinct_pushed have_same_id t.opens row h.ids others;
-  }
-
-no_wakes : (v : View) (spots : List Spot) → ((spot : Spot) → v.waiters_on spot ≡ []) → wakes v spots ≡ []
-no_wakes v [] none = refl
-no_wakes v (spot ∷ spots) none = ap (λ waiters. map wake waiters ++ wakes v spots) (none spot) ∙ no_wakes v spots none
-
--- a decision that posts nothing and doesn't wait
-record IsPlainDecision (setup : Setup) (history : List Entry) (t : Table) (d : Decision) : Type 0 where
-  posts : d.posts ≡ []
-  waits : d.waits ≡ None
-  plain : IsPlain setup history (apply_all d.changes t)
-
-concludes : (setup : Setup) (history : List Entry) (t : Table) (d : Decision) → IsPlainDecision setup history t d → IsPlain setup history (apply_all (conclude (view t) d).changes t)
-unfolding conclude
-concludes setup history t d h =
-    let settled : IsPlain setup history (apply_all (settling d) t) =
-    subst (IsPlain setup history) (sym (apply_all-append d.changes (Settle ∷ []) t)) (settles setup history (apply_all d.changes t) h.plain) in
-    let nobody : (spot : Spot) → (change_all (settling d) (view t)).waiters_on spot ≡ [] =
-    λ spot. ap (λ (v : View). v.waiters_on spot) (sym (view-apply_all (settling d) t)) ∙ ap (filter (λ waiter. same_spot waiter.spot spot)) settled.waiters in
-    let none : all_posts (change_all (settling d) (view t)) d (woken (view t) d) ≡ [] =
-    ap (λ posts. posts ++ wakes (change_all (settling d) (view t)) (woken (view t) d)) h.posts ∙ no_wakes (change_all (settling d) (view t)) (woken (view t) d) nobody in
-    let ends : finishing (woken (view t) d) d.waits (all_posts (change_all (settling d) (view t)) d (woken (view t) d)) ≡ map (λ spot. DropWaiters spot) (woken (view t) d) ++ [] =
-    ap (λ posts. finishing (woken (view t) d) d.waits posts) none ∙ ap (λ waits. finishing (woken (view t) d) waits []) h.waits in
-    subst (IsPlain setup history)
-    (sym (apply_all-append (settling d) (finishing (woken (view t) d) d.waits (all_posts (change_all (settling d) (view t)) d (woken (view t) d))) t
-    ∙ ap (λ changes. apply_all changes (apply_all (settling d) t)) ends))
-    (drops_all setup history (woken (view t) d) (apply_all (settling d) t) settled)
-
--- ---- what the served calls decide
-
-module _ (setup : Setup) (history : List Entry) where
-  refuses : (t : Table) (caller : Caller) (file : ℕ) → IsPlain setup history t → IsPlainDecision setup history t (refused caller file)
-  refuses t caller file h = record { posts = refl; waits = refl; plain = drops_waiter setup history t caller.sid (OpenOf file) h }
-
-  grants : (t : Table) (caller : Caller) (file : ℕ) (access : Access) (share : Share) → IsPlain setup history t → IsPlainOpen setup history (new_open caller file access share)
-      → AllByRecursion (λ other. have_same_id other (new_open caller file access share) ≡ false) t.opens → IsPlainDecision setup history t (granted caller file access share)
-  grants t caller file access share h plain others = record {
-    posts = refl;
-    waits = refl;
-    plain = adds_open setup history (apply (DropWaiter caller.sid (OpenOf file)) t) (new_open caller file access share) (drops_waiter setup history t caller.sid (OpenOf file) h) plain others;
-  }
-
-  opens_or_not : (t : Table) (caller : Caller) (file : ℕ) (access : Access) (share : Share) (b : Bool) → IsPlain setup history t → IsPlainOpen setup history (new_open caller file access share)
-      → AllByRecursion (λ other. have_same_id other (new_open caller file access share) ≡ false) t.opens
-      → IsPlainDecision setup history t (cond b (refused caller file) (granted caller file access share))
-  opens_or_not t caller file access share true h plain others = refuses t caller file h
-  opens_or_not t caller file access share false h plain others = grants t caller file access share h plain others
-
-  closes : (t : Table) (rows : List OpenRow) → IsPlain setup history t → IsPlainDecision setup history t (close_one rows)
-  closes t [] h = record { posts = refl; waits = refl; plain = h }
-  closes t (row ∷ rows) h = record { posts = refl; waits = refl; plain = drops_open setup history t row.file row.id h }
-
-  -- a served call of a caller whose open would be new
-  decides : (t : Table) (caller : Caller) (call : Call) → is_served call ≡ true → IsPlain setup history t
-      → ((file : ℕ) (access : Access) (share : Share) → IsPlainOpen setup history (new_open caller file access share))
-      → ((file : ℕ) (access : Access) (share : Share) → AllByRecursion (λ other. have_same_id other (new_open caller file access share) ≡ false) t.opens)
-      → IsPlainDecision setup history t (decide setup (view t) caller call)
-  unfolding open_file close
-  decides t caller (OpenFile file access share lease durable overwrite) served h plain others =
-      opens_or_not t caller file access share (list_any (conflicts access share) ((view t).opens_of file)) h (plain file access share) (others file access share)
-  decides t caller (Close handle) served h plain others = closes t ((view t).opens_of_handle caller.sid handle) h
-  decides t caller (Ack key state) served h plain others = absurd cc
-  decides t caller (Lock handle span mode wait) served h plain others = absurd cc
-  decides t caller (Unlock handle span) served h plain others = absurd cc
-  decides t caller (Read handle span) served h plain others = absurd cc
-  decides t caller (Write handle span) served h plain others = absurd cc
-  decides t caller (GLock key mode wait) served h plain others = absurd cc
-  decides t caller (GUnlock key) served h plain others = absurd cc
-  decides t caller Recv served h plain others = absurd cc
-  decides t caller Disconnect served h plain others = absurd cc
-  decides t caller (Reconnect worker call key) served h plain others = absurd cc
-  decides t caller Scavenge served h plain others = absurd cc
-  decides t caller Tidy served h plain others = absurd cc
-  decides t caller (Status tables) served h plain others = absurd cc
-
--- ---- an open that a call would make has an id of its own
-
-differs : (a b : ℕ) (c : Bool) → a < b → (a == b) ≡ c → (a == b) ≡ false
-differs a b true h e = let same : a ≡ b = eqb-true a b e in absurd (omega arith)
-differs a b false h e = e
-
-below_differs : (a b : ℕ) → a < b → (a == b) ≡ false
-below_differs a b h = differs a b (a == b) h refl
-
-fresh_id : (setup : Setup) (history : List Entry) (worker number : ℕ) (moment : Moment) (caller : Caller) (later : List ℕ) (file : ℕ) (access : Access) (share : Share) → IsSetup setup
-    → IsFirstCaller setup worker number moment caller → RisesAbove 0 (numbers_of worker history ++ number ∷ later) → (row : OpenRow) → IsPlainOpen setup history row
-    → have_same_id row (new_open caller file access share) ≡ false
-fresh_id setup history worker number moment caller later file access share s first rises row plain = by_pid (row.id.pid == caller.sid.pid) refl
-  where
-    by_pid : (b : Bool) → (row.id.pid == caller.sid.pid) ≡ b → have_same_id row (new_open caller file access share) ≡ false
-    by_pid false e = ap (λ b. b && (row.id.call == caller.number)) e
-    by_pid true e =
-        let pids : plain.info.pid ≡ first.info.pid = plain.pid ∙ eqb-true row.id.pid caller.sid.pid e ∙ first.pid in
-        let workers : plain.worker ≡ worker = one_worker setup.workers plain.worker worker plain.info first.info s.pids_differ plain.declared first.declared pids in
-        let among : is_among row.id.call (numbers_of worker history) ≡ true = subst (λ w. is_among row.id.call (numbers_of w history) ≡ true) workers plain.made in
-        let below : row.id.call < number = is_below 0 number row.id.call (numbers_of worker history) later rises among in
-        let differs : (row.id.call == caller.number) ≡ false = ap (λ n. row.id.call == n) first.number_is ∙ below_differs row.id.call number below in
-        ap (λ b. (row.id.pid == caller.sid.pid) && b) differs ∙ and-false (row.id.pid == caller.sid.pid)
-
--- ---- one entry
-
-own_is : (worker seq number : ℕ) (moment : Moment) (call : Call) (reply : Reply) → own_number worker (record { by = worker; seq = seq; what = Called number moment call reply }) ≡ number ∷ []
-own_is worker seq number moment call reply = ap (λ b. cond b (number ∷ []) []) (eq-eqb worker worker refl)
-
-new_is_plain : (setup : Setup) (history : List Entry) (worker seq number : ℕ) (moment : Moment) (call : Call) (reply : Reply) (caller : Caller) (file : ℕ) (access : Access) (share : Share)
-    → IsFirstCaller setup worker number moment caller
-    → IsPlainOpen setup (history ++ (record { by = worker; seq = seq; what = Called number moment call reply }) ∷ []) (new_open caller file access share)
-new_is_plain setup history worker seq number moment call reply caller file access share first =
-    let entry : Entry = record { by = worker; seq = seq; what = Called number moment call reply } in
-    let numbers : numbers_of worker (history ++ entry ∷ []) ≡ numbers_of worker history ++ number ∷ [] =
-    flat_map-append (own_number worker) history (entry ∷ []) ∙ ap (λ own. numbers_of worker history ++ (own ++ [])) (own_is worker seq number moment call reply) in
+-- who makes a legal call
+legal_calling : (setup : Setup) (low : ℕ → ℕ) (t : Table) (by number : ℕ) (moment : Moment) (caller : Caller) → IsReached low t → IsCallerOf setup t by number moment caller
+    → low caller.sid.pid < number → IsCalling (raise low caller.sid.pid number) t caller
+legal_calling setup low t by number moment caller r of above =
+    let high = raise low caller.sid.pid number in
+    let own : high caller.sid.pid ≡ number = raised_own low caller.sid.pid number in
+    let same : caller.number ≡ number = of.number_is in
+    let session : caller.sid.session ≤ low caller.sid.pid + 1 = session_by low t caller r.numbered of.alive in
     record {
-      lease = refl;
-      durable = refl;
-      session = first.session;
-      owner = refl;
-      handle = refl;
-      worker = worker;
-      info = first.info;
-      declared = first.declared;
-      pid = sym first.pid;
-      made = ap (is_among caller.number) numbers ∙ ap (λ n. is_among n (numbers_of worker history ++ number ∷ [])) first.number_is ∙ among_last number (numbers_of worker history);
+      consistent = r.consistent;
+      alive = of.alive;
+      fresh = fresh_above low t caller r.numbered (subst (λ n. low caller.sid.pid < n) (sym of.number_is) above);
+      number = omega arith;
+      session = omega arith;
     }
 
-entry_is_plain : (setup : Setup) (history later : List Entry) (by seq : ℕ) (event : Event) (t : Table) → IsSetup setup → IsPlain setup history t → IsLegalEvent setup t by event
-    → ((worker : ℕ) → RisesAbove 0 (numbers_of worker (history ++ (record { by = by; seq = seq; what = event }) ∷ later)))
-    → IsPlain setup (history ++ (record { by = by; seq = seq; what = event }) ∷ []) (after_event setup t by event)
-entry_is_plain setup history later by seq (Called number moment call reply) t s h legal rises =
-    let entry : Entry = record { by = by; seq = seq; what = Called number moment call reply } in
-    let caller = legal.answered.caller in
-    let first : IsFirstCaller setup by number moment caller = first_caller setup t by number moment caller h.workers legal.answered.is_caller in
-    let numbers : numbers_of by (history ++ entry ∷ later) ≡ numbers_of by history ++ number ∷ numbers_of by later =
-    flat_map-append (own_number by) history (entry ∷ later) ∙ ap (λ own. numbers_of by history ++ (own ++ numbers_of by later)) (own_is by seq number moment call reply) in
-    let rising : RisesAbove 0 (numbers_of by history ++ number ∷ numbers_of by later) = subst (RisesAbove 0) numbers (rises by) in
-    let decided = decides setup (history ++ entry ∷ []) t caller call legal.served (plain_more setup history (entry ∷ []) t h)
-    (λ file access share. new_is_plain setup history by seq number moment call reply caller file access share first)
-    (λ file access share. all_weaker (IsPlainOpen setup history) (λ other. have_same_id other (new_open caller file access share) ≡ false)
-    (fresh_id setup history by number moment caller (numbers_of by later) file access share s first rising) t.opens h.opens) in
-    let made : called setup t by number moment call ≡ Some (step setup t caller call) = ap (option_map (λ c. step setup t c call)) legal.answered.is_caller in
-    subst (IsPlain setup (history ++ entry ∷ [])) (ap (λ o. option_map_or (λ (stepped : Stepped). stepped.table) o t) (sym made))
-    (concludes setup (history ++ entry ∷ []) t (decide setup (view t) caller call) decided)
-entry_is_plain setup history later by seq (Died worker moment) t s h legal rises = absurd (let none = legal.1 in cc)
-entry_is_plain setup history later by seq (Tidied chain) t s h legal rises = plain_more setup history ((record { by = by; seq = seq; what = Tidied chain }) ∷ []) t h
+-- what a legal call decides owes what it should
+pub call_holds : (setup : Setup) (low : ℕ → ℕ) (t : Table) (by number : ℕ) (moment : Moment) (call : Call) (reply : Reply) (caller : Caller) → IsReached low t → IsLegalCall setup t by number moment call reply
+    → IsCallerOf setup t by number moment caller → low caller.sid.pid < number → DecisionHolds (raise low caller.sid.pid number) t (decide setup (view t) caller call)
+call_holds setup low t by number moment call reply caller r legal of above =
+    decided_holds (raise low caller.sid.pid number) setup t caller call (legal_calling setup low t by number moment caller r of above) legal.in_sets
 
--- ---- a whole history
+-- its changes fit
+pub call_fits : (setup : Setup) (low : ℕ → ℕ) (t : Table) (by number : ℕ) (moment : Moment) (call : Call) (reply : Reply) (caller : Caller) → IsReached low t → IsLegalCall setup t by number moment call reply
+    → IsCallerOf setup t by number moment caller → low caller.sid.pid < number → AllFit (outcome setup (view t) caller call).changes t
+call_fits setup low t by number moment call reply caller r legal of above =
+    conclude_fits t (decide setup (view t) caller call) r.consistent (call_holds setup low t by number moment call reply caller r legal of above).fits
 
-all_are_plain : (setup : Setup) (history later : List Entry) (t : Table) → IsSetup setup → IsPlain setup history t → AreLegal setup t later
-    → ((worker : ℕ) → RisesAbove 0 (numbers_of worker (history ++ later))) → IsPlain setup (history ++ later) (after_all setup t later)
-all_are_plain setup history [] t s h legal rises = subst (λ j. IsPlain setup j t) (sym (append-nil history)) h
-all_are_plain setup history (entry ∷ later) t s h legal rises =
-    let joined : (history ++ entry ∷ []) ++ later ≡ history ++ entry ∷ later = append_assoc history (entry ∷ []) later in
-    subst (λ j. IsPlain setup j (after_all setup (after_entry setup t entry) later)) joined
-    (all_are_plain setup (history ++ entry ∷ []) later (after_entry setup t entry) s
-    (entry_is_plain setup history later entry.by entry.seq entry.what t s h legal.0 rises) legal.1
-    (λ worker. subst (λ j. RisesAbove 0 (numbers_of worker j)) (sym joined) (rises worker)))
+-- those of a death fit
+pub dying_fits : (low : ℕ → ℕ) (t : Table) (caller : Caller) (moment : Moment) → IsReached low t → lives (view t) caller.sid ≡ true
+    → AllFit (conclude (view t) (end_of_session (view t) caller.sid moment [])).changes t
+dying_fits low t caller moment r alive = conclude_fits t (end_of_session (view t) caller.sid moment []) r.consistent (death_fits t caller.sid moment r.consistent alive)
 
-start_is_plain : (setup : Setup) → IsPlain setup [] (start setup)
-start_is_plain setup = record { leases = refl; ranges = refl; holds = refl; waiters = refl; letters = refl; workers = refl; opens = tt; ids = distinct_none have_same_id [] refl }
+pub calls_reach : (setup : Setup) → KeptByCalls setup IsReached
+calls_reach setup low t by number moment call reply caller r legal of above =
+    let high = raise low caller.sid.pid number in
+    let holds = call_holds setup low t by number moment call reply caller r legal of above in
+    reached_by high (outcome setup (view t) caller call).changes t (reached_more low caller.sid.pid number t r above legal.numbered.1) (call_fits setup low t by number moment call reply caller r legal of above)
+    (conclude_along (Numbers high) (λ sid call t. tt) (λ t. tt) t (decide setup (view t) caller call) holds.numbers.changes holds.numbers.waits (λ post i u. tt))
 
--- ---- such tables are sound
+pub deaths_reach : (setup : Setup) → KeptByDeaths setup IsReached
+unfolding end_of_session
+deaths_reach setup low t worker moment caller r timed of =
+    let d = end_of_session (view t) caller.sid moment [] in
+    reached_by low (conclude (view t) d).changes t r (dying_fits low t caller moment r of.alive)
+    (conclude_along (Numbers low) (λ sid call t. tt) (λ t. tt) t d (ending_numbers low t caller moment) (λ u. tt) (λ post i u. tt))
 
-plain_lives : (setup : Setup) (history : List Entry) (t : Table) → t.workers ≡ start_workers 1 setup.workers → (row : OpenRow) → IsPlainOpen setup history row → is_connected (view t) row ≡ true
-plain_lives setup history t w row plain =
-    ap (λ workers. option_map_or (λ worker. worker.alive && (worker.session == row.owner.session)) (find (λ r. r.pid == row.owner.pid) workers) false) w
-    ∙ ap (λ session. option_map_or (λ worker. worker.alive && (worker.session == session)) (find (λ r. r.pid == row.owner.pid) (start_workers 1 setup.workers)) false) plain.session
-    ∙ ap (λ pid. option_map_or (λ worker. worker.alive && (worker.session == 1)) (find (λ r. r.pid == pid) (start_workers 1 setup.workers)) false) (plain.owner ∙ sym plain.pid)
-    ∙ worker_lives setup.workers plain.worker plain.info plain.declared
+-- ---- the start
 
-same_pair : (p q : Bool) → (p && q) ≡ false → ((p && true) && q) ≡ false
-same_pair true q e = e
-same_pair false q e = refl
+first_sessions : (n : ℕ) (infos : List WorkerInfo) (worker : WorkerRow) → IsIn worker (start_workers n infos) → worker.session ≤ 0 + 1
+first_sessions n [] worker i = absurd i
+first_sessions n (info ∷ infos) worker (inl e) = let first : worker.session ≡ 1 = ap (λ (w : WorkerRow). w.session) (sym e) in omega arith
+first_sessions n (info ∷ infos) worker (inr i) = first_sessions (suc n) infos worker i
 
-handle_differs : (setup : Setup) (history : List Entry) (a b : OpenRow) → IsPlainOpen setup history a → IsPlainOpen setup history b → have_same_id a b ≡ false → have_same_handle a b ≡ false
-handle_differs setup history a b p q e =
-    ap (λ pid. ((pid == b.owner.pid) && (a.owner.session == b.owner.session)) && (a.handle == b.handle)) p.owner
-    ∙ ap (λ pid. ((a.id.pid == pid) && (a.owner.session == b.owner.session)) && (a.handle == b.handle)) q.owner
-    ∙ ap (λ session. ((a.id.pid == b.id.pid) && (session == b.owner.session)) && (a.handle == b.handle)) p.session
-    ∙ ap (λ session. ((a.id.pid == b.id.pid) && (1 == session)) && (a.handle == b.handle)) q.session
-    ∙ ap (λ handle. ((a.id.pid == b.id.pid) && true) && (handle == b.handle)) p.handle
-    ∙ ap (λ handle. ((a.id.pid == b.id.pid) && true) && (a.id.call == handle)) q.handle
-    ∙ same_pair (a.id.pid == b.id.pid) (a.id.call == b.id.call) e
+-- the workers at the start have the declared pids
+other_pids : (n pid : ℕ) (infos : List WorkerInfo) → AllByRecursion (λ other. nat_eq pid other ≡ false) (map (λ info. info.pid) infos) → AllByRecursion (λ (w : WorkerRow). (pid == w.pid) ≡ false) (start_workers n infos)
+other_pids n pid [] all = tt
+other_pids n pid (info ∷ infos) all = (all.0, other_pids (suc n) pid infos all.1)
 
-handles_here : (setup : Setup) (history : List Entry) (row : OpenRow) (rows : List OpenRow) → IsPlainOpen setup history row → AllByRecursion (IsPlainOpen setup history) rows
-    → AllByRecursion (λ other. have_same_id row other ≡ false) rows → AllByRecursion (λ other. have_same_handle row other ≡ false) rows
-handles_here setup history row [] p all others = tt
-handles_here setup history row (other ∷ rows) p all others = (handle_differs setup history row other p all.0 others.0, handles_here setup history row rows p all.1 others.1)
-
-handles_differ : (setup : Setup) (history : List Entry) (rows : List OpenRow) → AllByRecursion (IsPlainOpen setup history) rows → IsDistinct have_same_id rows → IsDistinct have_same_handle rows
+start_pids : (n : ℕ) (infos : List WorkerInfo) → IsDistinct nat_eq (map (λ info. info.pid) infos) → IsDistinct have_same_pid (start_workers n infos)
 unfolding IsDistinct
-handles_differ setup history [] all d = tt
-handles_differ setup history (row ∷ rows) all d = (handles_here setup history row rows all.0 all.1 d.0, handles_differ setup history rows all.1 d.1)
+start_pids n [] d = tt
+start_pids n (info ∷ infos) d = (other_pids (suc n) info.pid infos d.0, start_pids (suc n) infos d.1)
 
-plain_is_sound : (setup : Setup) (history : List Entry) (t : Table) → IsPlain setup history t → IsSound t
-plain_is_sound setup history t h = record {
-  ids_differ = h.ids;
-  handles_differ = handles_differ setup history t.opens h.opens h.ids;
-  opens_have_leases = all_true (has_its_lease t) t.opens
-      (all_weaker (IsPlainOpen setup history) (λ row. has_its_lease t row ≡ true)
-      (λ row p. ap (λ lease. option_map_or (λ name. list_any (λ l. same_name l.name name && (l.file == row.file)) t.leases) lease true) p.lease) t.opens h.opens);
-  durable_are_leased = all_true is_leased_if_durable t.opens
-      (all_weaker (IsPlainOpen setup history) (λ row. is_leased_if_durable row ≡ true)
-      (λ row p. ap (λ seconds. (seconds == 0) || is_some row.lease) p.durable) t.opens h.opens);
-  opens_may_stay = all_true (may_stay t) t.opens
-      (all_weaker (IsPlainOpen setup history) (λ row. may_stay t row ≡ true)
-      (λ row p. ap (λ b. b || (not (row.durable == 0) && holds_handle t row)) (plain_lives setup history t h.workers row p)) t.opens h.opens);
-  leases_differ = distinct_none have_same_name t.leases h.leases;
-  leases_have_opens = ap (list_all (has_open t)) h.leases;
-  leases_sound = ap (list_all (is_sound_lease t)) h.leases;
-  ranges_have_opens = ap (list_all (has_its_open t)) h.ranges;
-  holders_live = ap (list_all (λ hold. lives (view t) hold.owner)) h.holds;
-  holds_agree = distinct_none cannot_both_hold t.holds h.holds;
-  waiters_live = ap (list_all (waits_among_living t)) h.waiters;
-  waits_differ = distinct_none cannot_both_wait t.waiters h.waiters;
-  receivers_live = ap (list_all (λ post. lives (view t) post.to)) h.letters;
+start_consistent : (setup : Setup) → IsSetup setup → IsConsistent (start setup)
+unfolding IsDistinct
+start_consistent setup s = record {
+  ids_differ = tt;
+  handles_differ = tt;
+  opens_have_leases = refl;
+  durable_are_leased = refl;
+  opens_last = refl;
+  owners_had = refl;
+  leases_differ = tt;
+  leases_agree = refl;
+  ranges_have_opens = refl;
+  holders_live = refl;
+  holds_agree = tt;
+  waiters_live = refl;
+  waits_differ = tt;
+  receivers_live = refl;
+  pids_differ = start_pids 1 setup.workers s.pids_differ;
 }
+
+pub start_reached : (setup : Setup) → IsSetup setup → IsReached (λ pid. 0) (start setup)
+start_reached setup s = record {
+  consistent = start_consistent setup s;
+  numbered = record {
+    opens = λ o i. absurd i;
+    holds = λ hold i. absurd i;
+    waiters = λ w i. absurd i;
+    letters = λ post i. absurd i;
+    workers = first_sessions 1 setup.workers;
+    ended = λ row i. absurd i;
+  };
+  few = λ pid. omega arith;
+}
+
+-- ---- legal histories
+
+pub legal_is_reached : (setup : Setup) (history : List Entry) → IsSetup setup → IsLegal setup history → (low : ℕ → ℕ) × IsReached low (after setup history)
+legal_is_reached setup history s legal =
+    along_history setup s IsReached (calls_reach setup) (deaths_reach setup) (λ pid. 0) (start setup) history (start_reached setup s) legal.entries (λ worker info d. legal.rising worker)
 
 pub legal_is_sound : (setup : Setup) (history : List Entry) → IsSetup setup → IsLegal setup history → IsSound (after setup history)
 legal_is_sound setup history s legal =
-    plain_is_sound setup history (after setup history) (all_are_plain setup [] history (start setup) s (start_is_plain setup) legal.entries legal.rising)
-
--- ---- what such tables lack
-
--- Nothing is leased, locked, held or posted, nobody waits, and there are first sessions only.
-pub record IsQuiet (setup : Setup) (t : Table) : Type 0 where
-  pub leases : t.leases ≡ []
-  pub ranges : t.ranges ≡ []
-  pub holds : t.holds ≡ []
-  pub waiters : t.waiters ≡ []
-  pub letters : t.letters ≡ []
-  pub workers : t.workers ≡ start_workers 1 setup.workers
-  pub owners : AllByRecursion (λ (row : OpenRow). row.owner.session ≡ 1) t.opens
-
-plain_is_quiet : (setup : Setup) (history : List Entry) (t : Table) → IsPlain setup history t → IsQuiet setup t
-plain_is_quiet setup history t h = record {
-  leases = h.leases;
-  ranges = h.ranges;
-  holds = h.holds;
-  waiters = h.waiters;
-  letters = h.letters;
-  workers = h.workers;
-  owners = all_weaker (IsPlainOpen setup history) (λ row. row.owner.session ≡ 1) (λ row p. p.session) t.opens h.opens;
-}
-
-pub legal_is_quiet : (setup : Setup) (history : List Entry) → IsSetup setup → IsLegal setup history → IsQuiet setup (after setup history)
-legal_is_quiet setup history s legal =
-    plain_is_quiet setup history (after setup history) (all_are_plain setup [] history (start setup) s (start_is_plain setup) legal.entries legal.rising)
+    let reached = legal_is_reached setup history s legal in
+    settled-sound (after setup history) reached.1.consistent (after_all-settled setup (start setup) history (start-settled setup))

@@ -17,6 +17,7 @@ pub record IsBounded (t : Table) : Type 0 where
   pub letters : length t.letters < 2 ^ 32
   pub workers : length t.workers < 2 ^ 32
   pub ended : length t.ended < 2 ^ 32
+  pub pending : length t.pending < 2 ^ 32
   pub sessions : AllByRecursion (λ worker. IsSession worker.session) t.workers
   pub ended_sessions : AllByRecursion (λ row. IsSession row.sid.session) t.ended
   pub owners : AllByRecursion (λ open_row. IsSession open_row.owner.session) t.opens

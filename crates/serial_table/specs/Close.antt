@@ -8,10 +8,14 @@ use Rattle.serial_table.specs.declared.decision.Caller.{Caller}
 use Rattle.serial_table.specs.declared.decision.Decision.{Decision}
 use Rattle.serial_table.specs.Decision.{only_reply, spots_of}
 
--- the open that the handle names, if any, goes
-abbrev pub close_one : List OpenRow → Decision
-close_one [] = only_reply FileClosed
-close_one (open_row ∷ others) = record (only_reply Done) { changes = DropOpen open_row.file open_row.id ∷ []; spots = spots_of open_row.file }
+-- the open goes
+abbrev pub close_open : OpenRow → Decision
+close_open open_row = record (only_reply Done) { changes = DropOpen open_row.file open_row.id ∷ []; spots = spots_of open_row.file }
+
+-- the open that the handle names, if any
+abbrev pub close_first : List OpenRow → Decision
+close_first [] = only_reply FileClosed
+close_first (open_row ∷ others) = close_open open_row
 
 unfoldable pub close : View → Caller → ℕ → Decision
-close v caller handle = close_one (v.opens_of_handle caller.sid handle)
+close v caller handle = close_first (v.opens_of_handle caller.sid handle)

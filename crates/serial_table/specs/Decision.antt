@@ -1,16 +1,19 @@
--- What a call decides, and what the rules then say of every call alike.
+-- What a call decides, and what the rules then say of every call and of every death alike.
 use Rattle.std.specs.Prelude.{ℕ, List, [], ◌∷◌, ◌++◌, Option, Some, None, map, filter}
 use Rattle.sid_core.specs.declared.ids.Spot.{Spot}
 use Rattle.sid_core.specs.declared.ids.Spot.TheVariants.{OpenOf, RangesOf}
 use Rattle.sid_core.specs.declared.entry.Post.{Post}
 use Rattle.sid_core.specs.declared.reply.Reply.{Reply}
+use Rattle.sid_core.specs.Ids.{same_sid}
 use Rattle.serial_table.specs.declared.rows.WaiterRow.{WaiterRow}
+use Rattle.serial_table.specs.declared.rows.Watch.{Watch}
+use Rattle.serial_table.specs.declared.decision.Caller.{Caller}
 use Rattle.serial_table.specs.declared.decision.Decision.{Decision}
 use Rattle.serial_table.specs.declared.change.Change.{Change}
-use Rattle.serial_table.specs.declared.change.Change.TheVariants.{AddWaiter, DropWaiters, Send, Settle}
+use Rattle.serial_table.specs.declared.change.Change.TheVariants.{AddWaiter, DropWaiter, Send, Settle}
 use Rattle.serial_table.specs.View.{View}
-use Rattle.serial_table.specs.Change.{change_all}
-use Rattle.serial_table.specs.Wake.{some_frees, wakes}
+use Rattle.serial_table.specs.Change.{perform_all_by_key}
+use Rattle.serial_table.specs.Wake.{some_frees, waiting_on, wake}
 
 -- nothing but a reply
 abbrev pub only_reply : Reply → Decision
@@ -19,7 +22,22 @@ only_reply reply = record { changes = []; reply = reply; posts = []; spots = [];
 abbrev pub spots_of : ℕ → List Spot
 spots_of file = OpenOf file ∷ RangesOf file ∷ []
 
--- what a call does to the table, and what it answers and posts
+-- ---- waits that are over
+
+abbrev pub waits_no_more : Watch → Change
+waits_no_more watch = DropWaiter watch.sid watch.call
+
+-- the caller's own of these
+abbrev pub own_waits_end : Caller → List Watch → List Change
+own_waits_end caller watches = map waits_no_more (filter (λ watch. same_sid watch.sid caller.sid) watches)
+
+-- The caller waits no longer among these, whatever the call then decides.
+abbrev pub no_longer_waits : Caller → List Watch → Decision → Decision
+no_longer_waits caller watches decision = record decision { changes = own_waits_end caller watches ++ decision.changes }
+
+-- ---- how a decision is concluded
+
+-- what happens to the table, what is answered and what is posted
 pub record Outcome : Type 0 where
   pub changes : List Change
   pub reply : Reply
@@ -29,29 +47,29 @@ abbrev pub waits_now : Option WaiterRow → List Change
 waits_now None = []
 waits_now (Some waiter) = AddWaiter waiter ∷ []
 
--- the call's changes, and then the table settles
+-- the decision's changes, and then the table settles
 abbrev pub settling : Decision → List Change
 settling decision = decision.changes ++ Settle ∷ []
 
 -- Then the woken waiters go, the caller's waiter comes, and the letters are sent.
-abbrev pub finishing : List Spot → Option WaiterRow → List Post → List Change
-finishing woken waits posts = map (λ spot. DropWaiters spot) woken ++ (waits_now waits ++ map (λ post. Send post) posts)
+abbrev pub finishing : List Watch → Option WaiterRow → List Post → List Change
+finishing woken waits posts = map waits_no_more woken ++ (waits_now waits ++ map (λ post. Send post) posts)
 
-abbrev pub outcome_at : Decision → List Spot → List Post → Outcome
-outcome_at decision woken posts = record {
-  changes = settling decision ++ finishing woken decision.waits posts;
+-- the decision's own posts stand before the wakes
+abbrev pub outcome_with : Decision → List Watch → Outcome
+outcome_with decision woken = record {
+  changes = settling decision ++ finishing woken decision.waits (decision.posts ++ map wake woken);
   reply = decision.reply;
-  posts = posts;
+  posts = decision.posts ++ map wake woken;
 }
 
 -- the spots that are freed, in the decision's order
-abbrev pub woken : View → Decision → List Spot
-woken v decision = filter (some_frees (settling decision) v) decision.spots
+abbrev pub freed_spots : View → Decision → List Spot
+freed_spots v decision = filter (some_frees (settling decision) v) decision.spots
 
--- the decision's own posts, and then the wakes
-abbrev pub all_posts : View → Decision → List Spot → List Post
-all_posts settled decision spots = decision.posts ++ wakes settled spots
+-- who still waits on them once the table has settled
+abbrev pub woken_by : View → Decision → List Watch
+woken_by v decision = waiting_on (perform_all_by_key (settling decision) v) (freed_spots v decision)
 
 unfoldable pub conclude : View → Decision → Outcome
-conclude v decision =
-    outcome_at decision (woken v decision) (all_posts (change_all (settling decision) v) decision (woken v decision))
+conclude v decision = outcome_with decision (woken_by v decision)

@@ -1,9 +1,7 @@
 -- Histories of the open table, and which of them are legal.
-use Rattle.std.specs.Prelude.{◌≡◌, ℕ, suc, ◌+◌, ◌<◌, ◌≤◌, ◌==◌, Bool, if◌then◌else◌, true, IsTrue, IsSome, List, [], ◌∷◌, map, take, Option, Some}
+use Rattle.std.specs.Prelude.{◌≡◌, ℕ, suc, ◌==◌, if◌then◌else◌, true, IsSome, List, [], ◌∷◌, take, Some}
 use Rattle.std.specs.List.{flat_map}
-use Rattle.std.specs.Option.{option_map, option_map_or}
 use Rattle.sid_core.specs.declared.ids.Moment.{Moment}
-use Rattle.sid_core.specs.declared.entry.Post.{Post}
 use Rattle.sid_core.specs.declared.entry.Entry.{Entry}
 use Rattle.sid_core.specs.declared.entry.Event.{Event}
 use Rattle.sid_core.specs.declared.entry.Event.TheVariants.{Called, Died, Tidied}
@@ -12,15 +10,13 @@ use Rattle.sid_core.specs.declared.reply.Reply.{Reply}
 use Rattle.sid_core.specs.declared.setup.Setup.{Setup}
 use Rattle.sid_core.specs.declared.setup.WorkerInfo.{WorkerInfo}
 use Rattle.sid_core.specs.Values.{IsMoment}
-use Rattle.sid_core.specs.Call.{IsCall}
+use Rattle.sid_core.specs.Counting.{CountsFrom, RisesAbove}
+use Rattle.sid_core.specs.Call.{IsCall, IsCallNumber}
 use Rattle.serial_table.specs.declared.rows.WorkerRow.{WorkerRow}
 use Rattle.serial_table.specs.declared.table.Table.{Table}
 use Rattle.serial_table.specs.View.{view}
-use Rattle.serial_table.specs.declared.decision.Caller.{Caller}
-use Rattle.serial_table.specs.Decide.{is_served}
-use Rattle.serial_table.specs.declared.decision.Stepped.{Stepped}
-use Rattle.serial_table.specs.Step.{caller_of, step}
-use Rattle.serial_table.specs.Death.{died}
+use Rattle.serial_table.specs.Change.{perform_all}
+use Rattle.serial_table.specs.Step.{answer_of, death_of, changes_of}
 
 -- ---- where a history starts
 
@@ -43,33 +39,13 @@ start setup = record {
   letters = [];
   workers = start_workers 1 setup.workers;
   ended = [];
+  pending = [];
 }
-
--- ---- who lives
-
--- a worker's pid, and whether it lives
-abbrev pub standing : WorkerRow → ℕ × Bool
-standing row = (row.pid, row.alive)
-
--- those of all workers, in the order of their numbers
-abbrev pub standings : Table → List (ℕ × Bool)
-standings t = map standing t.workers
 
 -- ---- what an entry does
 
--- the call, where its worker is declared and alive
-abbrev pub called : Setup → Table → ℕ → ℕ → Moment → Call → Option Stepped
-called setup t worker number moment call = option_map (λ caller. step setup t caller call) (caller_of setup (view t) worker number moment)
-
 abbrev pub after_event : Setup → Table → ℕ → Event → Table
-after_event setup t by (Called number moment call reply) = option_map_or (λ stepped. stepped.table) (called setup t by number moment call) t
-after_event setup t by (Died worker moment) = option_map_or (λ ended. ended.table) (died setup t worker moment) t
-after_event setup t by (Tidied chain) = t
-
-abbrev pub posts_of_event : Setup → Table → ℕ → Event → List Post
-posts_of_event setup t by (Called number moment call reply) = option_map_or (λ stepped. stepped.posts) (called setup t by number moment call) []
-posts_of_event setup t by (Died worker moment) = option_map_or (λ ended. ended.posts) (died setup t worker moment) []
-posts_of_event setup t by (Tidied chain) = []
+after_event setup t by event = perform_all (changes_of setup (view t) by event) t
 
 abbrev pub after_entry : Setup → Table → Entry → Table
 after_entry setup t entry = after_event setup t entry.by entry.what
@@ -89,23 +65,22 @@ table_at setup history place = after setup (take place history)
 
 -- ---- which entries are legal
 
--- the caller is declared and alive, and the reply is the table's
-pub record IsAnswered (setup : Setup) (t : Table) (worker number : ℕ) (moment : Moment) (call : Call) (reply : Reply) : Type 0 where
-  pub caller : Caller
-  pub is_caller : caller_of setup (view t) worker number moment ≡ Some caller
-  pub answered : (step setup t caller call).reply ≡ reply
-
+-- A call has one answer, where its worker is declared and alive: that is the reply.
 pub record IsLegalCall (setup : Setup) (t : Table) (worker number : ℕ) (moment : Moment) (call : Call) (reply : Reply) : Type 0 where
-  pub numbered : (1 ≤ number) × (number ≤ 20000)
+  pub numbered : IsCallNumber number
   pub timed : IsMoment moment.0
   pub in_sets : IsCall setup call
-  pub served : IsTrue (is_served call)
-  pub answered : IsAnswered setup t worker number moment call reply
+  pub answered : answer_of setup (view t) worker number moment call ≡ Some reply
 
--- A death is legal where `died` gives what it does. To tidy a chain of the records is always legal, and changes nothing here.
+-- A death is legal where its worker is declared and alive.
+pub record IsLegalDeath (setup : Setup) (t : Table) (worker : ℕ) (moment : Moment) : Type 0 where
+  pub timed : IsMoment moment.0
+  pub dies : IsSome (death_of setup (view t) worker moment)
+
+-- To tidy a chain of the records is always legal, and changes nothing here.
 abbrev pub IsLegalEvent : Setup → Table → ℕ → Event → Type 0
 IsLegalEvent setup t by (Called number moment call reply) = IsLegalCall setup t by number moment call reply
-IsLegalEvent setup t by (Died worker moment) = IsMoment moment.0 × IsSome (died setup t worker moment)
+IsLegalEvent setup t by (Died worker moment) = IsLegalDeath setup t worker moment
 IsLegalEvent setup t by (Tidied chain) = Unit {0}
 
 abbrev pub IsLegalEntry : Setup → Table → Entry → Type 0
@@ -136,16 +111,6 @@ own_number by entry = if entry.by == by then call_number entry.what else []
 
 abbrev pub numbers_of : ℕ → List Entry → List ℕ
 numbers_of by history = flat_map (own_number by) history
-
--- n, n + 1 and so on
-abbrev pub CountsFrom : ℕ → List ℕ → Type 0
-CountsFrom n [] = Unit {0}
-CountsFrom n (x ∷ xs) = (x ≡ n) × CountsFrom (n + 1) xs
-
--- each number is above the one before it
-abbrev pub RisesAbove : ℕ → List ℕ → Type 0
-RisesAbove low [] = Unit {0}
-RisesAbove low (x ∷ xs) = (low < x) × RisesAbove x xs
 
 -- Each entry is legal at its place. The entries of each worker and of the runner have seq 1, 2, 3 and so on, and the numbers of a
 -- worker's calls rise.

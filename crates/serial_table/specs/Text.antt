@@ -9,17 +9,17 @@ use Rattle.sid_core.specs.declared.entry.Entry.{Entry}
 use Rattle.sid_core.specs.declared.entry.Event.{Event}
 use Rattle.sid_core.specs.declared.entry.Event.TheVariants.{Called, Died, Tidied}
 use Rattle.sid_core.specs.declared.call.Call.{Call}
-use Rattle.sid_core.specs.declared.call.Call.TheVariants.{OpenFile, Close, Ack, Lock, Unlock, Read, Write, GLock, GUnlock, Recv, Disconnect, Reconnect, Scavenge, Tidy, Status}
+use Rattle.sid_core.specs.declared.call.Call.TheVariants.{Status}
+use Rattle.sid_core.specs.Words.{word_of, word_text, state_text}
 use Rattle.sid_core.specs.declared.reply.Reply.{Reply}
-use Rattle.sid_core.specs.declared.reply.Reply.TheVariants.{Pending, Unsuccessful, InvalidParameter, AccessDenied, ObjectNameNotFound, SharingViolation, FileLockConflict, LockNotGranted, RangeNotLocked, RequestNotAccepted, FileClosed, PossibleDeadlock, InvalidLockRange, Granted, Done, Scavenged, Message, NoMessage, Shown}
+use Rattle.sid_core.specs.declared.reply.Reply.TheVariants.{Pending, Unsuccessful, InvalidParameter, AccessDenied, ObjectNameNotFound, SharingViolation, FileLockConflict, DeletePending, LockNotGranted, RangeNotLocked, RequestNotAccepted, FileClosed, PossibleDeadlock, InvalidLockRange, Granted, Done, Scavenged, Message, NoMessage, Shown}
 use Rattle.sid_core.specs.declared.setup.Setup.{Setup}
 use Rattle.sid_core.specs.declared.setup.WorkerInfo.{WorkerInfo}
 use Rattle.serial_table.specs.declared.table.Table.{Table}
-use Rattle.serial_table.specs.History.{start, after_entry, posts_of_event}
-
-abbrev pub state_text : ℕ → List ℕ
-state_text state =
-    if state == 0 then codes "-" else (if state == 1 then codes "R" else (if state == 3 then codes "RH" else (if state == 5 then codes "RW" else codes "RWH")))
+use Rattle.serial_table.specs.View.{View, view}
+use Rattle.serial_table.specs.Tables.{tables}
+use Rattle.serial_table.specs.Step.{posts_of}
+use Rattle.serial_table.specs.History.{start, after_entry}
 
 abbrev pub text_if : Bool → List ℕ → List ℕ
 text_if true text = text
@@ -33,23 +33,6 @@ letter_text (Break file key from to ack) =
 abbrev pub lease_text : Option ℕ → List ℕ
 lease_text None = []
 lease_text (Some state) = codes " lease=" ++ state_text state
-
-abbrev pub call_word : Call → List ℕ
-call_word (OpenFile file access share lease durable overwrite) = codes "open"
-call_word (Close handle) = codes "close"
-call_word (Ack key state) = codes "ack"
-call_word (Lock handle span mode wait) = codes "lock"
-call_word (Unlock handle span) = codes "unlock"
-call_word (Read handle span) = codes "read"
-call_word (Write handle span) = codes "write"
-call_word (GLock key mode wait) = codes "glock"
-call_word (GUnlock key) = codes "gunlock"
-call_word Recv = codes "recv"
-call_word Disconnect = codes "disconnect"
-call_word (Reconnect worker call key) = codes "reconnect"
-call_word Scavenge = codes "scavenge"
-call_word Tidy = codes "tidy"
-call_word (Status tables) = codes "status"
 
 abbrev pub granted_text : Option ℕ → Bool → List ℕ
 granted_text lease durable = codes "GRANTED" ++ (lease_text lease ++ text_if durable (codes " durable"))
@@ -69,6 +52,7 @@ reply_text AccessDenied = codes "ACCESS_DENIED"
 reply_text ObjectNameNotFound = codes "OBJECT_NAME_NOT_FOUND"
 reply_text SharingViolation = codes "SHARING_VIOLATION"
 reply_text FileLockConflict = codes "FILE_LOCK_CONFLICT"
+reply_text DeletePending = codes "DELETE_PENDING"
 reply_text LockNotGranted = codes "LOCK_NOT_GRANTED"
 reply_text RangeNotLocked = codes "RANGE_NOT_LOCKED"
 reply_text RequestNotAccepted = codes "REQUEST_NOT_ACCEPTED"
@@ -79,7 +63,7 @@ reply_text InvalidLockRange = codes "INVALID_LOCK_RANGE"
 -- `W.K word reply`
 abbrev pub call_line : ℕ → ℕ → Call → Reply → List ℕ
 call_line worker number call reply =
-    decimal worker ++ (46 ∷ (decimal number ++ (32 ∷ (call_word call ++ (32 ∷ (reply_text reply ++ 10 ∷ []))))))
+    decimal worker ++ (46 ∷ (decimal number ++ (32 ∷ (word_text (word_of call) ++ (32 ∷ (reply_text reply ++ 10 ∷ []))))))
 
 abbrev pub death_line : ℕ → List ℕ
 death_line worker = decimal worker ++ (codes " died" ++ 10 ∷ [])
@@ -98,9 +82,16 @@ event_line by (Called number moment call reply) = call_line by number call reply
 event_line by (Died worker moment) = death_line worker
 event_line by (Tidied chain) = []
 
--- an entry's line, and under it a line for each letter that it posts
+-- the tables under the line of a status call
+abbrev pub tables_under : Setup → View → Event → List ℕ
+tables_under setup v (Called number moment (Status chosen) reply) = tables setup v chosen
+tables_under setup v _ = []
+
+-- an entry's line, and under it a line for each letter that it posts, and the tables that it shows
 abbrev pub block : Setup → Table → Entry → List ℕ
-block setup t entry = event_line entry.by entry.what ++ flat_map (post_line setup) (posts_of_event setup t entry.by entry.what)
+block setup t entry =
+    event_line entry.by entry.what
+    ++ (flat_map (post_line setup) (posts_of setup (view t) entry.by entry.what) ++ tables_under setup (view t) entry.what)
 
 abbrev pub text_from : Setup → Table → List Entry → List ℕ
 text_from setup t [] = []

@@ -1,11 +1,11 @@
--- What the table shows under each key. A call reads this and the setup, and nothing else.
-use Rattle.std.specs.Prelude.{ℕ, Bool, false, ◌==◌, ◌&&◌, List, ◌++◌, Option, filter, map, find}
+-- What the table shows under each key: what the record of that key tells. A call reads this and the setup, and nothing else.
+use Rattle.std.specs.Prelude.{ℕ, Bool, true, false, ◌==◌, ◌&&◌, List, ◌++◌, [], ◌∷◌, Option, filter, map, find}
 use Rattle.std.specs.Option.{option_map_or}
 use Rattle.sid_core.specs.declared.ids.Sid.{Sid}
 use Rattle.sid_core.specs.declared.ids.OpenId.{OpenId}
 use Rattle.sid_core.specs.declared.ids.LeaseName.{LeaseName}
 use Rattle.sid_core.specs.declared.ids.Spot.{Spot}
-use Rattle.sid_core.specs.declared.entry.Letter.{Letter}
+use Rattle.sid_core.specs.declared.ids.Spot.TheVariants.{OpenOf, RangesOf, LockOf}
 use Rattle.sid_core.specs.declared.entry.Post.{Post}
 use Rattle.sid_core.specs.Ids.{same_sid, same_id, same_name, same_spot}
 use Rattle.serial_table.specs.declared.rows.OpenRow.{OpenRow}
@@ -15,13 +15,17 @@ use Rattle.serial_table.specs.declared.rows.HoldRow.{HoldRow}
 use Rattle.serial_table.specs.declared.rows.WaiterRow.{WaiterRow}
 use Rattle.serial_table.specs.declared.rows.WorkerRow.{WorkerRow}
 use Rattle.serial_table.specs.declared.rows.EndedRow.{EndedRow}
+use Rattle.serial_table.specs.declared.rows.Watch.{Watch}
 use Rattle.serial_table.specs.declared.table.Table.{Table}
+
+-- what a session waits for, by the number of the call that waits
+pub record Token : Type 0 where
+  pub spot : Spot
+  pub call : ℕ
 
 pub record View : Type 0 where
   -- the opens of a file
   pub opens_of : ℕ → List OpenRow
-  -- the opens of a lease: those of its file that carry its name
-  pub opens_of_lease : LeaseName → ℕ → List OpenRow
   -- the opens of a session's handle
   pub opens_of_handle : Sid → ℕ → List OpenRow
   -- the opens with an id
@@ -33,13 +37,13 @@ pub record View : Type 0 where
   -- the holds of a global lock
   pub holds_of : ℕ → List HoldRow
   -- who waits on a spot
-  pub waiters_on : Spot → List WaiterRow
+  pub watches_on : Spot → List Watch
   -- who waits behind a session
-  pub waiters_behind : Sid → List WaiterRow
+  pub watches_behind : Sid → List Watch
   -- what a session waits for
-  pub waits_of : Sid → List WaiterRow
-  -- a session's mailbox
-  pub letters_of : Sid → List Letter
+  pub tokens_of : Sid → List Token
+  -- the letters in a session's mailbox
+  pub letters_of : Sid → List Post
   -- the worker with a pid
   pub worker_of : ℕ → Option WorkerRow
   -- the ended sessions of a pid
@@ -53,14 +57,20 @@ is_of_file file open_row = open_row.file == file
 abbrev pub carries : LeaseName → Option LeaseName → Bool
 carries name lease = option_map_or (λ own. same_name own name) lease false
 
-abbrev pub is_of_lease : LeaseName → ℕ → OpenRow → Bool
-is_of_lease name file open_row = (open_row.file == file) && carries name open_row.lease
-
 abbrev pub is_of_handle : Sid → ℕ → OpenRow → Bool
 is_of_handle owner handle open_row = same_sid open_row.owner owner && (open_row.handle == handle)
 
 abbrev pub has_id : OpenId → OpenRow → Bool
 has_id id open_row = same_id open_row.id id
+
+abbrev pub has_name : LeaseName → LeaseRow → Bool
+has_name name lease = same_name lease.name name
+
+abbrev pub is_range_of : ℕ → RangeRow → Bool
+is_range_of file range = range.file == file
+
+abbrev pub is_hold_of : ℕ → HoldRow → Bool
+is_hold_of key hold = hold.key == key
 
 abbrev pub waits_on : Spot → WaiterRow → Bool
 waits_on spot waiter = same_spot waiter.spot spot
@@ -74,62 +84,82 @@ waits_for sid waiter = same_sid waiter.sid sid
 abbrev pub is_to : Sid → Post → Bool
 is_to sid post = same_sid post.to sid
 
+abbrev pub has_pid : ℕ → WorkerRow → Bool
+has_pid pid worker = worker.pid == pid
+
+abbrev pub is_end_of : ℕ → EndedRow → Bool
+is_end_of pid ended = ended.sid.pid == pid
+
+-- ---- what is told of a waiter: its session and call, and of a lock whether it asks for more than it holds
+
+abbrev pub is_lock : Spot → Bool
+is_lock (OpenOf file) = false
+is_lock (RangesOf file) = false
+is_lock (LockOf key) = true
+
+abbrev pub watch_on : Spot → WaiterRow → Watch
+watch_on spot waiter = record { sid = waiter.sid; call = waiter.call; upgrade = is_lock spot && waiter.upgrade }
+
+abbrev pub watch_behind : WaiterRow → Watch
+watch_behind waiter = record { sid = waiter.sid; call = waiter.call; upgrade = false }
+
+abbrev pub token_of : WaiterRow → Token
+token_of waiter = record { spot = waiter.spot; call = waiter.call }
+
 abbrev pub view : Table → View
 view t = record {
   opens_of = λ file. filter (is_of_file file) t.opens;
-  opens_of_lease = λ name file. filter (is_of_lease name file) t.opens;
   opens_of_handle = λ owner handle. filter (is_of_handle owner handle) t.opens;
   opens_of_id = λ id. filter (has_id id) t.opens;
-  leases_of = λ name. filter (λ lease. same_name lease.name name) t.leases;
-  ranges_of = λ file. filter (λ range. range.file == file) t.ranges;
-  holds_of = λ key. filter (λ hold. hold.key == key) t.holds;
-  waiters_on = λ spot. filter (waits_on spot) t.waiters;
-  waiters_behind = λ sid. filter (waits_behind sid) t.waiters;
-  waits_of = λ sid. filter (waits_for sid) t.waiters;
-  letters_of = λ sid. map (λ post. post.letter) (filter (is_to sid) t.letters);
-  worker_of = λ pid. find (λ worker. worker.pid == pid) t.workers;
-  ended_of = λ pid. filter (λ ended. ended.sid.pid == pid) t.ended;
+  leases_of = λ name. filter (has_name name) t.leases;
+  ranges_of = λ file. filter (is_range_of file) t.ranges;
+  holds_of = λ key. filter (is_hold_of key) t.holds;
+  watches_on = λ spot. map (watch_on spot) (filter (waits_on spot) t.waiters);
+  watches_behind = λ sid. map watch_behind (filter (waits_behind sid) t.waiters);
+  tokens_of = λ sid. map token_of (filter (waits_for sid) t.waiters);
+  letters_of = λ sid. filter (is_to sid) t.letters;
+  worker_of = λ pid. find (has_pid pid) t.workers;
+  ended_of = λ pid. filter (is_end_of pid) t.ended;
 }
 
 -- The session is the current one of a living worker.
 abbrev pub lives : View → Sid → Bool
 lives v sid = option_map_or (λ worker. worker.alive && (worker.session == sid.session)) (v.worker_of sid.pid) false
 
--- An open is connected while its owner's session lives.
-abbrev pub is_connected : View → OpenRow → Bool
-is_connected v open_row = lives v open_row.owner
+-- the leases of a name that are of this file
+abbrev pub leases_at : View → LeaseName → ℕ → List LeaseRow
+leases_at v name file = filter (λ lease. lease.file == file) (v.leases_of name)
 
 -- ---- rows come and go under all their keys at once
 
--- new rows stand at the end, under their keys
-abbrev pub with_opens : List OpenRow → View → View
-with_opens rows v = record v {
-  opens_of = λ file. v.opens_of file ++ filter (is_of_file file) rows;
-  opens_of_lease = λ name file. v.opens_of_lease name file ++ filter (is_of_lease name file) rows;
-  opens_of_handle = λ owner handle. v.opens_of_handle owner handle ++ filter (is_of_handle owner handle) rows;
-  opens_of_id = λ id. v.opens_of_id id ++ filter (has_id id) rows;
+-- a new open stands at the end, under its keys
+abbrev pub with_open : OpenRow → View → View
+with_open open_row v = record v {
+  opens_of = λ file. v.opens_of file ++ filter (is_of_file file) (open_row ∷ []);
+  opens_of_handle = λ owner handle. v.opens_of_handle owner handle ++ filter (is_of_handle owner handle) (open_row ∷ []);
+  opens_of_id = λ id. v.opens_of_id id ++ filter (has_id id) (open_row ∷ []);
 }
 
-abbrev pub with_waiters : List WaiterRow → View → View
-with_waiters rows v = record v {
-  waiters_on = λ spot. v.waiters_on spot ++ filter (waits_on spot) rows;
-  waiters_behind = λ sid. v.waiters_behind sid ++ filter (waits_behind sid) rows;
-  waits_of = λ sid. v.waits_of sid ++ filter (waits_for sid) rows;
+abbrev pub with_waiter : WaiterRow → View → View
+with_waiter waiter v = record v {
+  watches_on = λ spot. v.watches_on spot ++ map (watch_on spot) (filter (waits_on spot) (waiter ∷ []));
+  watches_behind = λ sid. v.watches_behind sid ++ map watch_behind (filter (waits_behind sid) (waiter ∷ []));
+  tokens_of = λ sid. v.tokens_of sid ++ map token_of (filter (waits_for sid) (waiter ∷ []));
 }
 
 -- the rows that pass stay, under every key
 abbrev pub keeping_opens : (OpenRow → Bool) → (RangeRow → Bool) → View → View
 keeping_opens stays range_stays v = record v {
   opens_of = λ file. filter stays (v.opens_of file);
-  opens_of_lease = λ name file. filter stays (v.opens_of_lease name file);
   opens_of_handle = λ owner handle. filter stays (v.opens_of_handle owner handle);
   opens_of_id = λ id. filter stays (v.opens_of_id id);
   ranges_of = λ file. filter range_stays (v.ranges_of file);
 }
 
-abbrev pub keeping_waiters : (WaiterRow → Bool) → View → View
-keeping_waiters stays v = record v {
-  waiters_on = λ spot. filter stays (v.waiters_on spot);
-  waiters_behind = λ sid. filter stays (v.waiters_behind sid);
-  waits_of = λ sid. filter stays (v.waits_of sid);
+-- waiters stay by their session and call
+abbrev pub keeping_waits : (Sid → ℕ → Bool) → View → View
+keeping_waits stays v = record v {
+  watches_on = λ spot. filter (λ watch. stays watch.sid watch.call) (v.watches_on spot);
+  watches_behind = λ sid. filter (λ watch. stays watch.sid watch.call) (v.watches_behind sid);
+  tokens_of = λ sid. filter (λ token. stays sid token.call) (v.tokens_of sid);
 }

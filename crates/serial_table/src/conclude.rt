@@ -1,17 +1,29 @@
-ghost use Rattle.std.specs.Prelude.{◌≡◌, ◌++◌, filter, map, IfOk, OnOk, OnErr, Some};
+ghost use Rattle.std.specs.Prelude.{◌≡◌, ℕ, ◌+◌, ◌*◌, ◌≤◌, ◌++◌, ◌∷◌, [], IsTrue, IfOk, OnOk, OnErr, Some, IfSome, length, map, vec_len, vec_capacity, false};
+ghost use Rattle.std.specs.List.{list_all, flat_map};
 ghost use Rattle.serial_table.specs.View.{view};
-ghost use Rattle.serial_table.specs.Change.{apply_all};
-ghost use Rattle.serial_table.specs.Decision.{settling, finishing, waits_now, woken, all_posts, conclude};
-ghost use Rattle.serial_table.specs.Step.{carried_out};
+ghost use Rattle.serial_table.specs.Change.{perform_all};
+ghost use Rattle.serial_table.specs.Wake.{wake};
+ghost use Rattle.serial_table.specs.Decision.{settling, waits_no_more, waits_now, conclude};
+ghost use Rattle.serial_table.specs.InPlace.{table_of, HasRoom, AreEnough, is_made, judge, IsReady};
 
 use crate::change::Change;
-use crate::decision::{Candidate, Decision, Stepped};
-use crate::rows::WaiterRow;
-use crate::table::Table;
-use crate::wake;
-use sid_core::{Items, OutOfMemory, Post, Spot};
+use crate::decision::Decision;
+use crate::lists::{Lists, Scope};
+use crate::rows::{WaiterRow, Watch};
+use crate::wake::{self, Candidate};
+use sid_core::{Items, OutOfMemory, Post};
 use std::alloc::Global;
 
+/// What a decision needs to be concluded without taking memory any more.
+#[derive(Drop)]
+pub(crate) struct Ready {
+    pub(crate) changes: Vec<Change>,
+    pub(crate) candidates: Vec<Candidate>,
+    pub(crate) woken: Vec<Watch>,
+    pub(crate) posts: Vec<Post>,
+}
+
+/// The decision's changes, and then that the table settles.
 fn settling(decision: &Decision) -> Result<Vec<Change>, OutOfMemory>
     ensures { IfOk result (λ changes. changes.items ≡ settling decision.now) }
 {
@@ -20,131 +32,133 @@ fn settling(decision: &Decision) -> Result<Vec<Change>, OutOfMemory>
     Ok(changes)
 }
 
-fn freed_spots(alloc: Global, candidates: &[Candidate]) -> Result<Vec<Spot>, OutOfMemory>
-    ensures { IfOk result (λ spots. spots.items ≡ map (λ candidate. candidate.spot) (filter (λ candidate. candidate.freed) candidates.now)) }
+/// How many waiters the spots can have after so many changes, where the table has so many before.
+fn count_watches(spots: usize, waiters: usize, changes: usize) -> Option<usize>
+    ensures { IfSome result (λ count. count ≡ spots * (waiters + changes)) }
 {
-    Ok(
-        candidates
-            .iter()
-            .filter(|candidate| candidate.freed)
-            .map(|candidate| candidate.spot)
-            .collect(alloc)?,
-    )
+    waiters.checked_add(changes)?.checked_mul(spots)
 }
 
-fn all_posts(
-    settled: &Table,
-    decision: &Decision,
-    woken: &[Spot],
-) -> Result<Items<Post>, OutOfMemory>
-    ensures { IfOk result (λ posts. posts ≡ all_posts (view settled.now) decision.now woken.now) }
+fn or_refuse(count: Option<usize>) -> Result<usize, OutOfMemory>
+    ensures { IfOk result (λ number. count ≡ Some number) }
 {
-    let mut posts = decision.posts.copy()?.into_vec();
-    posts.extend_from_slice(wake::wakes(settled, woken)?.as_slice())?;
-    Ok(Items::from_vec(posts))
-}
-
-fn drop_waiters(alloc: Global, woken: &[Spot]) -> Result<Vec<Change>, OutOfMemory>
-    ensures { IfOk result (λ changes. changes.items ≡ map (λ spot. Change.DropWaiters spot) woken.now) }
-{
-    Ok(
-        woken
-            .iter()
-            .map(|spot| Change::DropWaiters { spot: *spot })
-            .collect(alloc)?,
-    )
-}
-
-fn sends(alloc: Global, posts: &[Post]) -> Result<Vec<Change>, OutOfMemory>
-    ensures { IfOk result (λ changes. changes.items ≡ map (λ post. Change.Send post) posts.now) }
-{
-    Ok(posts.iter().map(|post| Change::Send(*post)).collect(alloc)?)
-}
-
-fn push_wait(changes: &mut Vec<Change>, waits: Option<WaiterRow>) -> Result<(), OutOfMemory>
-    ensures { OnOk result (changes.new.items ≡ changes.old.items ++ waits_now waits) }
-{
-    match waits {
-        Some(waiter) => {
-            changes.push(Change::AddWaiter(waiter))?;
-            Ok(())
-        }
-        None => Ok(()),
+    match count {
+        Some(number) => Ok(number),
+        None => Err(OutOfMemory),
     }
 }
 
-fn finishing(
-    alloc: Global,
-    woken: &[Spot],
-    waits: Option<WaiterRow>,
-    posts: &[Post],
-) -> Result<Vec<Change>, OutOfMemory>
-    ensures { IfOk result (λ changes. changes.items ≡ finishing woken.now waits posts.now) }
+/// Takes all memory that the conclusion needs but for the table's own rows.
+fn prepare(alloc: Global, waiters: usize, decision: &Decision) -> Result<Ready, OutOfMemory>
+    ensures { IfOk result (IsReady decision.now waiters) }
 {
-    let mut changes = drop_waiters(alloc, woken)?;
-    push_wait(&mut changes, waits)?;
-    changes.extend_from_slice(sends(alloc, posts)?.as_slice())?;
-    Ok(changes)
-}
-
-impl Table {
-    pub(crate) fn copy(&self) -> Result<Table, OutOfMemory>
-        ensures { IfOk result (λ table. table ≡ self.now) }
-    {
-        Ok(Table {
-            opens: self.opens.copy()?,
-            leases: self.leases.copy()?,
-            ranges: self.ranges.copy()?,
-            holds: self.holds.copy()?,
-            waiters: self.waiters.copy()?,
-            letters: self.letters.copy()?,
-            workers: self.workers.copy()?,
-            ended: self.ended.copy()?,
-        })
-    }
-}
-
-/// Makes the decision's own changes, and settles. Says which of the spots are woken.
-fn settle_and_judge(table: &mut Table, decision: &Decision) -> Result<Vec<Spot>, OutOfMemory>
-    ensures changed { OnOk result (table.new ≡ apply_all (settling decision.now) table.old) }
-    ensures woken { IfOk result (λ spots. spots.items ≡ woken (view table.old) decision.now) }
-{
-    let alloc = table.opens.allocator();
     let changes = settling(decision)?;
-    let judged = wake::carry_out(table, changes.as_slice(), decision.spots.as_slice())?;
-    freed_spots(alloc, judged.as_slice())
-}
-
-/// Wakes, adds the caller's waiter and sends the letters.
-fn finish(
-    table: &mut Table,
-    decision: &Decision,
-    woken: &[Spot],
-) -> Result<Items<Post>, OutOfMemory>
-    ensures posts { IfOk result (λ posts. posts ≡ all_posts (view table.old) decision.now woken.now) }
-    ensures changed { OnOk result (table.new ≡ apply_all (finishing woken.now decision.now.waits (all_posts (view table.old) decision.now woken.now)) table.old) }
-{
-    let posts = all_posts(table, decision, woken)?;
-    let changes = finishing(
-        table.opens.allocator(),
+    let candidates = wake::candidates(alloc, decision.spots.as_slice())?;
+    let watches = or_refuse(count_watches(candidates.len(), waiters, changes.len()))?;
+    let letters = or_refuse(decision.posts.len().checked_add(watches))?;
+    let woken = Vec::with_capacity(alloc, watches)?;
+    let posts = Vec::with_capacity(alloc, letters)?;
+    Ok(Ready {
+        changes,
+        candidates,
         woken,
-        decision.waits,
-        posts.as_slice(),
-    )?;
-    table.perform_all(changes.as_slice())?;
-    Ok(posts)
-}
-
-/// The table after a call that decides so, with its reply and its posts.
-pub(crate) fn conclude(table: &Table, decision: &Decision) -> Result<Stepped, OutOfMemory>
-    ensures { IfOk result (λ stepped. stepped ≡ carried_out table.now (conclude (view table.now) decision.now)) }
-{
-    let mut next = table.copy()?;
-    let woken = settle_and_judge(&mut next, decision)?;
-    let posts = finish(&mut next, decision, woken.as_slice())?;
-    Ok(Stepped {
-        table: next,
-        reply: decision.reply,
         posts,
     })
+}
+
+fn push_posts(posts: &mut Vec<Post>, more: &[Post])
+    requires room { vec_len posts.old + length more.now ≤ vec_capacity posts.old }
+    ensures items { posts.new.items ≡ posts.old.items ++ more.now }
+    ensures len { vec_len posts.new ≡ vec_len posts.old + length more.now }
+    ensures room { vec_capacity posts.new ≡ vec_capacity posts.old }
+{
+    for post in more {
+        posts.push_reserved(*post);
+    }
+}
+
+fn push_wakes(posts: &mut Vec<Post>, woken: &[Watch])
+    requires room { vec_len posts.old + length woken.now ≤ vec_capacity posts.old }
+    ensures items { posts.new.items ≡ posts.old.items ++ map wake woken.now }
+    ensures len { vec_len posts.new ≡ vec_len posts.old + length woken.now }
+{
+    for watch in woken {
+        posts.push_reserved(wake::wake(watch));
+    }
+}
+
+impl Lists {
+    fn drop_woken(&mut self, woken: &[Watch])
+        ensures table { table_of self.new ≡ perform_all (map waits_no_more woken.now) (table_of self.old) }
+        ensures room { (more : ℕ) → HasRoom self.old more → HasRoom self.new more }
+    {
+        for watch in woken {
+            self.drop_wait(watch.sid, watch.call);
+        }
+    }
+
+    fn add_wait(&mut self, waits: Option<WaiterRow>)
+        requires room { HasRoom self.old 1 }
+        ensures table { table_of self.new ≡ perform_all (waits_now waits) (table_of self.old) }
+        ensures room { (more : ℕ) → HasRoom self.old (1 + more) → HasRoom self.new more }
+    {
+        if let Some(waiter) = waits {
+            self.waiters.push_reserved(waiter);
+        }
+    }
+
+    fn send_all(&mut self, posts: &[Post])
+        requires room { HasRoom self.old (length posts.now) }
+        ensures table { table_of self.new ≡ perform_all (map (λ post. Change.Send post) posts.now) (table_of self.old) }
+    {
+        for post in posts {
+            self.send(*post);
+        }
+    }
+}
+
+impl Lists {
+    /// Concludes the decision. All that could be refused is at hand.
+    fn finish(&mut self, scope: Scope, decision: &Decision, ready: Ready) -> Vec<Post>
+        requires made { IsTrue (list_all is_made decision.now.changes) }
+        requires enough { AreEnough scope (settling decision.now) (table_of self.old) }
+        requires ready { IsReady decision.now (vec_len self.old.waiters) ready }
+        requires room { HasRoom self.old (vec_len ready.changes + (1 + vec_capacity ready.posts)) }
+        ensures table { table_of self.new ≡ perform_all (conclude (view (table_of self.old)) decision.now).changes (table_of self.old) }
+        ensures posts { result.items ≡ (conclude (view (table_of self.old)) decision.now).posts }
+    {
+        let Ready {
+            changes,
+            mut candidates,
+            mut woken,
+            mut posts,
+        } = ready;
+        self.carry_out(scope, changes.as_slice(), &mut candidates);
+        wake::push_woken(&mut woken, self.waiters.as_slice(), candidates.as_slice());
+        push_posts(&mut posts, decision.posts.as_slice());
+        push_wakes(&mut posts, woken.as_slice());
+        self.drop_woken(woken.as_slice());
+        self.add_wait(decision.waits);
+        self.send_all(posts.as_slice());
+        posts
+    }
+
+    /// Concludes the decision, and gives the letters that it posts. A refusal changes nothing.
+    pub(crate) fn conclude(
+        &mut self,
+        scope: Scope,
+        decision: &Decision,
+    ) -> Result<Vec<Post>, OutOfMemory>
+        requires made { IsTrue (list_all is_made decision.now.changes) }
+        requires enough { AreEnough scope (settling decision.now) (table_of self.old) }
+        ensures table { OnOk result (table_of self.new ≡ perform_all (conclude (view (table_of self.old)) decision.now).changes (table_of self.old)) }
+        ensures posts { IfOk result (λ posts. posts.items ≡ (conclude (view (table_of self.old)) decision.now).posts) }
+        ensures err { OnErr result (table_of self.new ≡ table_of self.old) }
+    {
+        let ready = prepare(self.alloc(), self.waiters.len(), decision)?;
+        let letters = or_refuse(ready.posts.capacity().checked_add(1))?;
+        let more = or_refuse(ready.changes.len().checked_add(letters))?;
+        self.reserve(more)?;
+        Ok(self.finish(scope, decision, ready))
+    }
 }

@@ -1,214 +1,252 @@
-ghost use Rattle.std.specs.Prelude.{◌≡◌, ◌==◌, ◌&&◌, not, false, find, filter, map, IfOk};
+ghost use Rattle.std.specs.Prelude.{◌≡◌, ◌≤◌, ◌&&◌, not, filter, map, vec_len, vec_capacity};
 ghost use Rattle.std.specs.List.{list_any};
-ghost use Rattle.std.specs.Option.{option_map_or};
-ghost use Rattle.sid_core.specs.Ids.{same_name, same_id};
-ghost use Rattle.serial_table.specs.View.{view, lives, is_connected, is_of_file, is_of_lease, carries};
-ghost use Rattle.serial_table.specs.Settle.{settled_lease, broken_to_needed, lacks_handle, keeps_open, keeps_range, keeps_lease, settle};
+ghost use Rattle.sid_core.specs.Values.{has};
+ghost use Rattle.serial_table.specs.View.{is_of_file, has_name};
+ghost use Rattle.serial_table.specs.Settle.{settle_where};
+ghost use Rattle.serial_table.specs.InPlace.{table_of, in_scope, lives_by, KeepsRoom, is_lease_of, lacks_lease, goes, goes_with, range_goes, is_under_lease, lease_goes, break_ends, lease_ends_break, without_what_goes};
 
+use crate::lists::{Lists, Scope};
 use crate::rows::{Breaking, LeaseRow, OpenRow, RangeRow, WorkerRow};
-use crate::table::Table;
+use crate::view;
 use bitflags::Flags;
-use sid_core::{Items, LeaseName, LeaseState, OpenId, OutOfMemory, Sid};
+use sid_core::{LeaseName, LeaseState, OpenId, Sid};
 
-pub(crate) fn worker_of(workers: &[WorkerRow], pid: u32) -> Option<WorkerRow>
-    ensures { result ≡ find (λ worker. worker.pid == pid) workers.now }
+// ---- a lease that is breaking
+
+fn is_under(lease: &LeaseRow, row: &OpenRow) -> bool
+    ensures { result ≡ is_under_lease lease.now row.now }
 {
-    workers.iter().copied().find(|worker| worker.pid == pid)
+    row.file == lease.file && view::carries(lease.name, row.lease)
 }
 
-fn is_in_session(worker: Option<WorkerRow>, session: u32) -> bool
-    ensures { result ≡ option_map_or (λ worker. worker.alive && (worker.session == session)) worker false }
+fn is_connected_under(workers: &[WorkerRow], lease: &LeaseRow, row: &OpenRow) -> bool
+    ensures { result ≡ (is_under_lease lease.now row.now && lives_by workers.now row.now.owner) }
 {
-    match worker {
-        Some(worker) => worker.alive && worker.session == session,
-        None => false,
-    }
+    is_under(lease, row) && view::lives(workers, row.owner)
 }
 
-fn lives(workers: &[WorkerRow], sid: Sid) -> bool
-    ensures { result ≡ option_map_or (λ worker. worker.alive && (worker.session == sid.session)) (find (λ worker. worker.pid == sid.pid) workers.now) false }
+fn is_connected(opens: &[OpenRow], workers: &[WorkerRow], lease: &LeaseRow) -> bool
+    ensures { result ≡ list_any (λ row. is_under_lease lease.now row && lives_by workers.now row.owner) opens.now }
 {
-    is_in_session(worker_of(workers, sid.pid), sid.session)
-}
-
-fn is_connected(table: &Table, row: &OpenRow) -> bool
-    ensures { result ≡ is_connected (view table.now) row.now }
-{
-    lives(table.workers.as_slice(), row.owner)
-}
-
-fn carries(name: LeaseName, lease: Option<LeaseName>) -> bool
-    ensures { result ≡ carries name lease }
-{
-    match lease {
-        Some(own) => own == name,
-        None => false,
-    }
-}
-
-fn is_of_lease(name: LeaseName, file: u32, row: &OpenRow) -> bool
-    ensures { result ≡ is_of_lease name file row.now }
-{
-    row.file == file && carries(name, row.lease)
-}
-
-fn is_connected_lease(table: &Table, lease: &LeaseRow) -> bool
-    ensures { result ≡ list_any (is_connected (view table.now)) (filter (is_of_lease lease.now.name lease.now.file) table.now.opens) }
-{
-    let opens = table.opens.as_slice();
     opens
         .iter()
-        .filter(|open| is_of_lease(lease.name, lease.file, open))
-        .any(|open| is_connected(table, open))
+        .any(|row| is_connected_under(workers, lease, row))
 }
 
-fn broken_to_needed(lease: LeaseRow, breaking: Option<Breaking>) -> LeaseRow
-    ensures { result ≡ broken_to_needed lease breaking }
+// ---- what goes, by leases that are settled
+
+pub(crate) fn lacks_handle(lease: &LeaseRow) -> bool
+    ensures { result ≡ not (has lease.now.held.0 2) }
 {
-    match breaking {
-        None => lease,
-        Some(breaking) => LeaseRow {
+    !lease.held.intersects(LeaseState::HANDLE)
+}
+
+pub(crate) fn is_lease_of(file: u32, lease: &LeaseRow) -> bool
+    ensures { result ≡ is_lease_of file lease.now }
+{
+    lease.file == file
+}
+
+fn some_lacks_handle(leases: &[LeaseRow], file: u32, name: LeaseName) -> bool
+    ensures { result ≡ list_any (λ lease. not (has lease.held.0 2)) (filter (is_lease_of file) (filter (has_name name) leases.now)) }
+{
+    leases
+        .iter()
+        .filter(|lease| view::has_name(name, lease))
+        .filter(|lease| is_lease_of(file, lease))
+        .any(|lease| lacks_handle(lease))
+}
+
+fn lacks_lease(leases: &[LeaseRow], row: &OpenRow) -> bool
+    ensures { result ≡ lacks_lease leases.now row.now }
+{
+    match row.lease {
+        Some(name) => some_lacks_handle(leases, row.file, name),
+        None => false,
+    }
+}
+
+fn goes(scope: Scope, leases: &[LeaseRow], workers: &[WorkerRow], row: &OpenRow) -> bool
+    ensures { result ≡ goes (in_scope scope) (lives_by workers.now) leases.now row.now }
+{
+    scope.has(row.file) && (lacks_lease(leases, row) && !view::lives(workers, row.owner))
+}
+
+fn goes_with(
+    scope: Scope,
+    leases: &[LeaseRow],
+    workers: &[WorkerRow],
+    range: &RangeRow,
+    row: &OpenRow,
+) -> bool
+    ensures { result ≡ goes_with (goes (in_scope scope) (lives_by workers.now) leases.now) range.now row.now }
+{
+    row.id == range.id && goes(scope, leases, workers, row)
+}
+
+fn loses_open(
+    scope: Scope,
+    opens: &[OpenRow],
+    leases: &[LeaseRow],
+    workers: &[WorkerRow],
+    range: &RangeRow,
+) -> bool
+    ensures { result ≡ list_any (goes_with (goes (in_scope scope) (lives_by workers.now) leases.now) range.now) (filter (is_of_file range.now.file) opens.now) }
+{
+    opens
+        .iter()
+        .filter(|row| view::is_of_file(range.file, row))
+        .any(|row| goes_with(scope, leases, workers, range, row))
+}
+
+fn range_goes(
+    scope: Scope,
+    opens: &[OpenRow],
+    leases: &[LeaseRow],
+    workers: &[WorkerRow],
+    range: &RangeRow,
+) -> bool
+    ensures { result ≡ range_goes (in_scope scope) (goes (in_scope scope) (lives_by workers.now) leases.now) opens.now range.now }
+{
+    scope.has(range.file) && loses_open(scope, opens, leases, workers, range)
+}
+
+fn has_open(opens: &[OpenRow], lease: &LeaseRow) -> bool
+    ensures { result ≡ list_any (is_under_lease lease.now) opens.now }
+{
+    opens.iter().any(|row| is_under(lease, row))
+}
+
+fn lease_goes(scope: Scope, opens: &[OpenRow], lease: &LeaseRow) -> bool
+    ensures { result ≡ lease_goes (in_scope scope) opens.now lease.now }
+{
+    scope.has(lease.file) && !has_open(opens, lease)
+}
+
+fn some_go(scope: Scope, opens: &[OpenRow], leases: &[LeaseRow], workers: &[WorkerRow]) -> bool
+    ensures { result ≡ list_any (goes (in_scope scope) (lives_by workers.now) leases.now) opens.now }
+{
+    opens.iter().any(|row| goes(scope, leases, workers, row))
+}
+
+// ---- in place
+
+fn end_break(
+    scope: Scope,
+    opens: &[OpenRow],
+    workers: &[WorkerRow],
+    lease: LeaseRow,
+    breaking: Breaking,
+) -> LeaseRow
+    ensures { result ≡ break_ends (in_scope scope) opens.now (lives_by workers.now) lease breaking }
+{
+    if !scope.has(lease.file) || is_connected(opens, workers, &lease) {
+        lease
+    } else {
+        LeaseRow {
             held: breaking.needed,
             breaking: None,
             ..lease
-        },
+        }
     }
 }
 
-fn settled_lease(table: &Table, lease: &LeaseRow) -> LeaseRow
-    ensures { result ≡ settled_lease (view table.now) lease.now }
+/// A lease that isn't breaking costs nothing.
+pub(crate) fn settle_lease(
+    scope: Scope,
+    opens: &[OpenRow],
+    workers: &[WorkerRow],
+    lease: LeaseRow,
+) -> LeaseRow
+    ensures { result ≡ lease_ends_break (in_scope scope) opens.now (lives_by workers.now) lease }
 {
-    if is_connected_lease(table, lease) {
-        *lease
-    } else {
-        broken_to_needed(*lease, lease.breaking)
+    match lease.breaking {
+        None => lease,
+        Some(breaking) => end_break(scope, opens, workers, lease, breaking),
     }
 }
 
-fn lacks_handle(table: &Table, file: u32, lease: &LeaseRow) -> bool
-    ensures { result ≡ lacks_handle (view table.now) file lease.now }
+fn settle_leases(scope: Scope, opens: &[OpenRow], workers: &[WorkerRow], leases: &mut Vec<LeaseRow>)
+    ensures items { leases.new.items ≡ map (lease_ends_break (in_scope scope) opens.now (lives_by workers.now)) leases.old.items }
+    ensures len { vec_len leases.new ≡ vec_len leases.old }
+    ensures room { vec_capacity leases.new ≡ vec_capacity leases.old }
 {
-    lease.file == file
-        && !settled_lease(table, lease)
-            .held
-            .intersects(LeaseState::HANDLE)
-}
-
-fn has_name(name: LeaseName, lease: &LeaseRow) -> bool
-    ensures { result ≡ same_name lease.now.name name }
-{
-    lease.name == name
-}
-
-fn loses_disconnected(table: &Table, file: u32, name: LeaseName) -> bool
-    ensures { result ≡ list_any (lacks_handle (view table.now) file) (filter (λ lease. same_name lease.name name) table.now.leases) }
-{
-    let leases = table.leases.as_slice();
-    leases
-        .iter()
-        .filter(|lease| has_name(name, lease))
-        .any(|lease| lacks_handle(table, file, lease))
-}
-
-fn loses(table: &Table, file: u32, lease: Option<LeaseName>) -> bool
-    ensures { result ≡ option_map_or (λ name. list_any (lacks_handle (view table.now) file) ((view table.now).leases_of name)) lease false }
-{
-    match lease {
-        Some(name) => loses_disconnected(table, file, name),
-        None => false,
+    for lease in leases.iter_mut() {
+        *lease = settle_lease(scope, opens, workers, *lease);
     }
 }
 
-pub(crate) fn keeps_open(table: &Table, row: &OpenRow) -> bool
-    ensures { result ≡ keeps_open (view table.now) row.now }
-{
-    is_connected(table, row) || !loses(table, row.file, row.lease)
-}
-
-fn drops_open(table: &Table, id: OpenId, row: &OpenRow) -> bool
-    ensures { result ≡ (same_id row.now.id id && not (keeps_open (view table.now) row.now)) }
-{
-    row.id == id && !keeps_open(table, row)
-}
-
-pub(crate) fn is_of_file(file: u32, row: &OpenRow) -> bool
-    ensures { result ≡ is_of_file file row.now }
-{
-    row.file == file
-}
-
-fn drops_its_open(table: &Table, range: &RangeRow) -> bool
-    ensures { result ≡ list_any (λ row. same_id row.id range.now.id && not (keeps_open (view table.now) row)) (filter (is_of_file range.now.file) table.now.opens) }
-{
-    let opens = table.opens.as_slice();
-    opens
-        .iter()
-        .filter(|open| is_of_file(range.file, open))
-        .any(|open| drops_open(table, range.id, open))
-}
-
-pub(crate) fn keeps_range(table: &Table, range: &RangeRow) -> bool
-    ensures { result ≡ keeps_range (view table.now) range.now }
-{
-    !drops_its_open(table, range)
-}
-
-fn keeps_lease(table: &Table, lease: &LeaseRow) -> bool
-    ensures { result ≡ keeps_lease (view table.now) lease.now }
-{
-    let opens = table.opens.as_slice();
-    opens
-        .iter()
-        .filter(|open| is_of_lease(lease.name, lease.file, open))
-        .any(|open| keeps_open(table, open))
-}
-
-pub(crate) fn settled_leases(table: &Table) -> Result<Vec<LeaseRow>, OutOfMemory>
-    ensures { IfOk result (λ rows. rows.items ≡ map (settled_lease (view table.now)) table.now.leases) }
-{
-    let leases = table.leases.as_slice();
-    Ok(
-        leases
-            .iter()
-            .map(|lease| settled_lease(table, lease))
-            .collect(table.leases.allocator())?,
-    )
-}
-
-pub(crate) fn kept_leases(
-    table: &Table,
+fn drop_ranges(
+    scope: Scope,
+    opens: &[OpenRow],
     leases: &[LeaseRow],
-) -> Result<Items<LeaseRow>, OutOfMemory>
-    ensures { IfOk result (λ rows. rows ≡ filter (keeps_lease (view table.now)) leases.now) }
+    workers: &[WorkerRow],
+    ranges: &mut Vec<RangeRow>,
+)
+    ensures items { ranges.new.items ≡ filter (λ range. not (range_goes (in_scope scope) (goes (in_scope scope) (lives_by workers.now) leases.now) opens.now range)) ranges.old.items }
+    ensures len { vec_len ranges.new ≤ vec_len ranges.old }
+    ensures room { vec_capacity ranges.new ≡ vec_capacity ranges.old }
 {
-    let rows = leases
-        .iter()
-        .copied()
-        .filter(|lease| keeps_lease(table, lease))
-        .collect(table.leases.allocator())?;
-    Ok(Items::from_vec(rows))
+    ranges.retain(|range| !range_goes(scope, opens, leases, workers, range));
 }
 
-pub(crate) fn kept_opens(table: &Table) -> Result<Items<OpenRow>, OutOfMemory>
-    ensures { IfOk result (λ rows. rows ≡ filter (keeps_open (view table.now)) table.now.opens) }
+fn drop_opens(scope: Scope, leases: &[LeaseRow], workers: &[WorkerRow], opens: &mut Vec<OpenRow>)
+    ensures items { opens.new.items ≡ filter (λ row. not (goes (in_scope scope) (lives_by workers.now) leases.now row)) opens.old.items }
+    ensures len { vec_len opens.new ≤ vec_len opens.old }
+    ensures room { vec_capacity opens.new ≡ vec_capacity opens.old }
 {
-    let opens = table.opens.as_slice();
-    let rows = opens
-        .iter()
-        .copied()
-        .filter(|open| keeps_open(table, open))
-        .collect(table.opens.allocator())?;
-    Ok(Items::from_vec(rows))
+    opens.retain(|row| !goes(scope, leases, workers, row));
 }
 
-pub(crate) fn kept_ranges(table: &Table) -> Result<Items<RangeRow>, OutOfMemory>
-    ensures { IfOk result (λ rows. rows ≡ filter (keeps_range (view table.now)) table.now.ranges) }
+fn drop_leases(scope: Scope, opens: &[OpenRow], leases: &mut Vec<LeaseRow>)
+    ensures items { leases.new.items ≡ filter (λ lease. not (lease_goes (in_scope scope) opens.now lease)) leases.old.items }
+    ensures len { vec_len leases.new ≤ vec_len leases.old }
+    ensures room { vec_capacity leases.new ≡ vec_capacity leases.old }
 {
-    let ranges = table.ranges.as_slice();
-    let rows = ranges
-        .iter()
-        .copied()
-        .filter(|range| keeps_range(table, range))
-        .collect(table.ranges.allocator())?;
-    Ok(Items::from_vec(rows))
+    leases.retain(|lease| !lease_goes(scope, opens, lease));
+}
+
+impl Lists {
+    /// Takes out the opens that go, with their ranges. The leases are settled.
+    fn drop_what_goes(&mut self, scope: Scope)
+        ensures table { table_of self.new ≡ without_what_goes (in_scope scope) (table_of self.old) }
+        ensures room { KeepsRoom self.old self.new }
+    {
+        if !some_go(
+            scope,
+            self.opens.as_slice(),
+            self.leases.as_slice(),
+            self.workers.as_slice(),
+        ) {
+            return;
+        }
+        drop_ranges(
+            scope,
+            self.opens.as_slice(),
+            self.leases.as_slice(),
+            self.workers.as_slice(),
+            &mut self.ranges,
+        );
+        drop_opens(
+            scope,
+            self.leases.as_slice(),
+            self.workers.as_slice(),
+            &mut self.opens,
+        );
+    }
+
+    /// Settles the files of the scope. It costs a scan of the opens and of the leases, and what the files' own rows cost.
+    pub(crate) fn settle(&mut self, scope: Scope)
+        ensures table { table_of self.new ≡ settle_where (in_scope scope) (table_of self.old) }
+        ensures room { KeepsRoom self.old self.new }
+    {
+        settle_leases(
+            scope,
+            self.opens.as_slice(),
+            self.workers.as_slice(),
+            &mut self.leases,
+        );
+        self.drop_what_goes(scope);
+        drop_leases(scope, self.opens.as_slice(), &mut self.leases);
+    }
 }

@@ -1,4 +1,6 @@
 pub mod Faults
+pub mod Counting
+pub mod Words
 pub mod Reply
 pub mod Ids
 pub mod Values

@@ -4,6 +4,7 @@ use Rattle.std.specs.List.{AllByRecursion, IsDistinct}
 use Rattle.sid_core.specs.declared.setup.WorkerInfo.{WorkerInfo}
 use Rattle.sid_core.specs.declared.setup.FileInfo.{FileInfo}
 use Rattle.sid_core.specs.declared.setup.Setup.{Setup}
+use Rattle.sid_core.specs.declared.limits.TheConstants.{MAX_WORKERS, MAX_FILES}
 use Rattle.sid_core.specs.Values.{IsU32, IsU64, IsText}
 
 pub record IsWorker (worker : WorkerInfo) : Type 0 where
@@ -24,8 +25,8 @@ same_file a b = (a.dev == b.dev) && (a.inode == b.inode)
 
 -- At most 64 workers with pids that differ, and at most 10,000 files that differ in device or inode.
 pub record IsSetup (setup : Setup) : Type 0 where
-  pub few_workers : length setup.workers ≤ 64
-  pub few_files : length setup.files ≤ 10000
+  pub few_workers : length setup.workers ≤ MAX_WORKERS
+  pub few_files : length setup.files ≤ MAX_FILES
   pub workers : AllByRecursion IsWorker setup.workers
   pub files : AllByRecursion IsFile setup.files
   pub pids_differ : IsDistinct nat_eq (map (λ w. w.pid) setup.workers)

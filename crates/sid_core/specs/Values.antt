@@ -3,6 +3,7 @@ use Rattle.std.specs.Prelude.{◌≡◌, ℕ, Bool, not, ◌==◌, ◌<◌, ◌�
 use Rattle.std.specs.List.{AllByRecursion, list_any}
 use Rattle.std.specs.Int.RustNames.{bit_and}
 use Rattle.sid_core.specs.declared.call.Span.{Span}
+use Rattle.sid_core.specs.declared.limits.TheConstants.{ACCESS_MASK, MAX_MOMENT, MAX_TEXT}
 
 -- a number of 32 bits, and one of 64
 abbrev pub IsU32 : ℕ → Type 0
@@ -22,7 +23,7 @@ is_part_of part whole = bit_and part whole == part
 -- Access rights: one at least, and none outside the fourteen that have names.
 pub record IsAccess (bits : ℕ) : Type 0 where
   pub some : 0 < bits
-  pub known : bit_and bits 0x1F01FF ≡ bits
+  pub known : bit_and bits ACCESS_MASK ≡ bits
 
 -- any of the three share bits
 abbrev pub IsShare : ℕ → Type 0
@@ -36,7 +37,7 @@ abbrev pub IsState : ℕ → Type 0
 IsState bits = IsTrue (is_state bits)
 
 abbrev pub IsMoment : ℕ → Type 0
-IsMoment seconds = seconds ≤ 9999999999
+IsMoment seconds = seconds ≤ MAX_MOMENT
 
 abbrev pub IsSpan : Span → Type 0
 IsSpan span = IsU64 span.start × IsU64 span.length
@@ -47,5 +48,5 @@ IsPrintable byte = (0x21 ≤ byte) × (byte ≤ 0x7E)
 
 pub record IsText (bytes : List ℕ) : Type 0 where
   pub some : 1 ≤ length bytes
-  pub short : length bytes ≤ 255
+  pub short : length bytes ≤ MAX_TEXT
   pub printable : AllByRecursion IsPrintable bytes

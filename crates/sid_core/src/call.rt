@@ -31,7 +31,8 @@ pub struct LeaseAsk {
 /// A call of a worker. Files and workers go by their numbers in the setup, from 1.
 #[derive(Clone, Copy, Debug, PartialEq, Eq)]
 pub enum Call {
-    /// `durable` is in seconds, and 0 where no durable open is asked.
+    /// `durable` is in seconds, and 0 where no durable open is asked. With `delete` the file is to go once this open is closed
+    /// ([MS-SMB2] 2.2.13, FILE_DELETE_ON_CLOSE).
     OpenFile {
         file: u32,
         access: Access,
@@ -39,9 +40,15 @@ pub enum Call {
         lease: Option<LeaseAsk>,
         durable: u32,
         overwrite: bool,
+        delete: bool,
     },
     Close {
         handle: u32,
+    },
+    /// The file of the open is to go once its last open is closed, or is to stay ([MS-FSCC] 2.4.11, FileDispositionInformation).
+    Delete {
+        handle: u32,
+        on: bool,
     },
     Ack {
         key: u64,

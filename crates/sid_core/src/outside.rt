@@ -59,6 +59,8 @@ pub enum Point {
     Store,
     /// After the first chain is given back.
     Release,
+    /// After the first step of the call's first recovery of another worker.
+    Mourn,
 }
 
 /// A step of a transaction, of a recovery or of a call. Numbers are those of chains or, for `Freed`, of the dead worker.

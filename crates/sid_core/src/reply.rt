@@ -14,6 +14,8 @@ pub enum Reply {
     ObjectNameNotFound,
     SharingViolation,
     FileLockConflict,
+    /// The file is to go once its last open is closed, and takes no further open.
+    DeletePending,
     LockNotGranted,
     RangeNotLocked,
     RequestNotAccepted,
@@ -47,6 +49,7 @@ impl Reply {
             Reply::ObjectNameNotFound => 0xC000_0034,
             Reply::SharingViolation => 0xC000_0043,
             Reply::FileLockConflict => 0xC000_0054,
+            Reply::DeletePending => 0xC000_0056,
             Reply::LockNotGranted => 0xC000_0055,
             Reply::RangeNotLocked => 0xC000_007E,
             Reply::RequestNotAccepted => 0xC000_00D0,

@@ -9,6 +9,8 @@ pub struct WorkerInfo {
     pub guid: u64,
     pub machine: Text,
     pub share: Text,
+    /// It is of a release that keeps share mode records of version 1.
+    pub old: bool,
 }
 
 /// A file that a script declares, by its device and inode. Its extid is 0.

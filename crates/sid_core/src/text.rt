@@ -26,6 +26,21 @@ impl Text {
         }
     }
 
+    /// Takes no memory.
+    pub fn from_vec(bytes: Vec<u8>) -> Text
+        ensures { result ≡ bytes.items }
+    {
+        Text { bytes }
+    }
+
+    /// Takes no memory, and gives what the text was made from back with its room.
+    pub fn into_vec(self) -> Vec<u8>
+        ensures { result.items ≡ self }
+    {
+        let Text { bytes } = self;
+        bytes
+    }
+
     /// Adds bytes at the end. Takes memory in steps that keep the cost of many small pushes linear.
     pub fn push(&mut self, bytes: &[u8]) -> Result<(), OutOfMemory>
         ensures ok { OnOk result (self.new ≡ self.old ++ bytes.now) }

@@ -1,14 +1,16 @@
 -- What the tests on tokens say.
-use Rattle.std.proofs.Common.{◌≡◌, ℕ, ◌<◌, ◌≤◌, Bool, true, false, not, cond, eqb, leb, ltb, bit_and, ◌&&◌, List, [], ◌∷◌, length, Option, Some, None, is_none, unwrap_or, refl, arith}
+use Rattle.std.proofs.Common.{◌≡◌, ℕ, ◌≤◌, Bool, true, false, not, cond, eqb, leb, ltb, bit_and, ◌&&◌, List, [], ◌∷◌, length, Option, Some, None, is_none, unwrap_or, refl, arith}
 use Rattle.std.proofs.lemmas.Bool.{and_parts}
 use Rattle.std.specs.List.{AllByRecursion, list_all, filter, onto_first}
 use Rattle.std.proofs.lemmas.Bool.Decides.{nat_tests}
-use Rattle.std.proofs.lemmas.Slice.Eq.{bytes_eq-Decides}
-use Rattle.std.specs.Prelude.{codes}
-use Rattle.std.specs.Str.{bytes_eq}
+use Rattle.sid_core.specs.declared.bits.Share.{Share}
+use Rattle.sid_core.specs.declared.limits.TheConstants.{ACCESS_MASK}
 use Rattle.sid_core.specs.Values.{IsPrintable, IsText, IsAccess, IsShare}
+use Rattle.sid_core.specs.Words.{share_text, share_bits, read_share}
+use Rattle.sid_core.proofs.Spelling.{share-spelled}
+use Rattle.std.specs.Option.{IfSome}
 use Rattle.worker_script.specs.Text.{parts, tokens, token, is_empty, is_plain}
-use Rattle.worker_script.specs.Values.{value, is_digit, is_number, is_numeral, is_short, known_access, access, hex_after, share}
+use Rattle.worker_script.specs.Values.{value, is_number, is_numeral, is_short, known_access, access, hex_after}
 
 -- A number lies in its range.
 pub number-range : (low high : ℕ) (t : List ℕ) → is_number low high t ≡ true → (low ≤ value t) × (value t ≤ high)
@@ -57,15 +59,15 @@ known-step : (n : ℕ) (b : Bool) → (b ≡ true → IsAccess n) → is_none (c
 known-step n true good some = good refl
 known-step n false good some = cc
 
-known-good : (n : ℕ) → (ltb 0 n && eqb (bit_and n 0x1F01FF) n) ≡ true → IsAccess n
+known-good : (n : ℕ) → (ltb 0 n && eqb (bit_and n ACCESS_MASK) n) ≡ true → IsAccess n
 known-good n e =
-    let both = and_parts (ltb 0 n) (eqb (bit_and n 0x1F01FF) n) e in
+    let both = and_parts (ltb 0 n) (eqb (bit_and n ACCESS_MASK) n) e in
     let some = both.0 in let same = both.1 in
     record { some = grind (arith, nat_tests); known = grind (arith, nat_tests) }
 
 known-access : (o : Option ℕ) → is_none (known_access o) ≡ false → IsAccess (unwrap_or (known_access o) 0)
 known-access None some = cc
-known-access (Some n) some = known-step n (ltb 0 n && eqb (bit_and n 0x1F01FF) n) (known-good n) some
+known-access (Some n) some = known-step n (ltb 0 n && eqb (bit_and n ACCESS_MASK) n) (known-good n) some
 
 tested-access : (b : Bool) (o : Option ℕ) → (is_none o ≡ false → IsAccess (unwrap_or o 0)) → is_none (cond b o None) ≡ false → IsAccess (unwrap_or (cond b o None) 0)
 tested-access true o good some = good some
@@ -79,36 +81,10 @@ access-known (a ∷ []) some = cc
 access-known (a ∷ b ∷ digits) some =
     tested-access (eqb a 48 && eqb b 120 && leb 1 (length digits) && leb (length digits) 8) (known_access (hex_after 0 digits)) (known-access (hex_after 0 digits)) some
 
-small-share : (a b c d e f g h : Bool)
-    → is_none {T = ℕ} (cond a (Some 0) (cond b (Some 1) (cond c (Some 2) (cond d (Some 3) (cond e (Some 4) (cond f (Some 5) (cond g (Some 6) (cond h (Some 7) None)))))))) ≡ false
-    → unwrap_or {T = ℕ} (cond a (Some 0) (cond b (Some 1) (cond c (Some 2) (cond d (Some 3) (cond e (Some 4) (cond f (Some 5) (cond g (Some 6) (cond h (Some 7) None)))))))) 0 < 8
-small-share true b c d e f g h some = omega arith
-small-share false true c d e f g h some = omega arith
-small-share false false true d e f g h some = omega arith
-small-share false false false true e f g h some = omega arith
-small-share false false false false true f g h some = omega arith
-small-share false false false false false true g h some = omega arith
-small-share false false false false false false true h some = omega arith
-small-share false false false false false false false true some = omega arith
-small-share false false false false false false false false some = cc
+share-found : (t : List ℕ) (o : Option Share) → IfSome o (λ s. (t ≡ share_text s.0) × IsShare s.0) → is_none o ≡ false → IsShare (unwrap_or o (share_bits 0)).0
+share-found t None is some = cc
+share-found t (Some s) is some = is.1
 
 -- What a share token spells is a set of share bits.
-pub share-known : (t : List ℕ) → is_none (share t) ≡ false → IsShare (unwrap_or (share t) 0)
-unfolding share
-share-known t some =
-    small-share (bytes_eq t (codes "-")) (bytes_eq t (codes "r")) (bytes_eq t (codes "w")) (bytes_eq t (codes "rw"))
-    (bytes_eq t (codes "d")) (bytes_eq t (codes "rd")) (bytes_eq t (codes "wd")) (bytes_eq t (codes "rwd")) some
-
--- ---- the words of declarations and phases
-
-no-digits : (word t : List ℕ) → list_all is_digit word ≡ false → bytes_eq t word ≡ true → list_all is_digit t ≡ false
-no-digits word t none e = let same : t ≡ word = (bytes_eq-Decides t word).0 e in rw same none
-
-pub worker_no_digits : (t : List ℕ) → bytes_eq t (codes "worker") ≡ true → list_all is_digit t ≡ false
-worker_no_digits t e = no-digits (codes "worker") t refl e
-
-pub file_no_digits : (t : List ℕ) → bytes_eq t (codes "file") ≡ true → list_all is_digit t ≡ false
-file_no_digits t e = no-digits (codes "file") t refl e
-
-pub phase_no_digits : (t : List ℕ) → bytes_eq t (codes "phase") ≡ true → list_all is_digit t ≡ false
-phase_no_digits t e = no-digits (codes "phase") t refl e
+pub share-known : (t : List ℕ) → is_none (read_share t) ≡ false → IsShare (unwrap_or (read_share t) (share_bits 0)).0
+share-known t some = share-found t (read_share t) (share-spelled t) some

@@ -4,7 +4,7 @@ use Rattle.std.specs.List.{AllByRecursion, IsDistinct, list_any}
 use Rattle.std.proofs.lemmas.Bool.{or_parts}
 use Rattle.std.proofs.lemmas.Bool.Decides.{nat_tests}
 use Rattle.worker_script.specs.Text.{token}
-use Rattle.worker_script.specs.Script.{CountsFrom, NeverFallsFrom}
+use Rattle.sid_core.specs.Counting.{CountsFrom, NeverFallsFrom}
 
 pub all-push : {X : Type 0} (P : X → Type 0) (xs : List X) (x : X) → AllByRecursion P xs → P x → AllByRecursion P (xs ++ x ∷ [])
 all-push P [] x all here = (here, tt)
@@ -48,3 +48,7 @@ at-token P (t ∷ ts) index within all = token-step P t ts index (eqb index 0) r
 pub all-last : {X : Type 0} (P : X → Type 0) (xs : List X) (x : X) → AllByRecursion P (xs ++ x ∷ []) → AllByRecursion P xs × P x
 all-last P [] x all = (tt, all.0)
 all-last P (y ∷ xs) x all = let others = all-last P xs x all.1 in ((all.0, others.0), others.1)
+
+pub all-both : {X : Type 0} (P : X → Type 0) (xs ys : List X) → AllByRecursion P xs → AllByRecursion P ys → AllByRecursion P (xs ++ ys)
+all-both P [] ys some more = more
+all-both P (x ∷ xs) ys some more = (some.0, all-both P xs ys some.1 more)

@@ -1,10 +1,7 @@
 -- Parts and tokens, one after another.
-use Rattle.std.proofs.Common.{◌≡◌, ◌≢◌, ℕ, ◌+◌, ◌<◌, Bool, true, false, cond, eqb, List, [], ◌∷◌, length, take, drop, get_or, refl, ap, ◌∙◌, add-one, arith}
+use Rattle.std.proofs.Common.{◌≡◌, ◌≢◌, ℕ, ◌+◌, ◌<◌, Bool, true, false, cond, eqb, List, [], ◌∷◌, length, take, drop, refl, ap, ◌∙◌, add-one, arith}
 use Rattle.std.specs.List.{onto_first}
-use Rattle.std.proofs.lemmas.List.{at_drop_more}
-use Rattle.std.proofs.lemmas.Bool.Decides.{nat_tests}
-use Rattle.worker_script.specs.Text.{parts, tokens, token}
-use Rattle.worker_script.specs.Search.{before}
+use Rattle.worker_script.specs.Text.{parts, tokens, before}
 
 parts-step : (sep b : ℕ) (bytes : List ℕ) (t : Bool)
     → (0 < length bytes → parts sep bytes ≡ take (before sep bytes) bytes ∷ parts sep (drop 1 (drop (before sep bytes) bytes)))
@@ -19,13 +16,6 @@ pub parts-before : (sep : ℕ) (bytes : List ℕ) → 0 < length bytes
     → parts sep bytes ≡ take (before sep bytes) bytes ∷ parts sep (drop 1 (drop (before sep bytes) bytes))
 parts-before sep [] h = absurd (omega arith)
 parts-before sep (b ∷ bytes) h = parts-step sep b bytes (eqb b sep) (λ more. parts-before sep bytes more)
-
-pub before-more : (sep : ℕ) (bytes : List ℕ) (i : ℕ) → i < length bytes → get_or bytes i 0 ≢ sep
-    → before sep (drop i bytes) ≡ before sep (drop (i + 1) bytes) + 1
-before-more sep bytes i h ne = rw (at_drop_more (before sep) bytes i 0 h) (grind (arith, nat_tests))
-
-pub before-here : (sep : ℕ) (bytes : List ℕ) (i : ℕ) → i < length bytes → get_or bytes i 0 ≡ sep → before sep (drop i bytes) ≡ 0
-before-here sep bytes i h e = rw (at_drop_more (before sep) bytes i 0 h) (grind (arith, nat_tests))
 
 pub first_part-more : (sep end : ℕ) (bytes part rest : List ℕ) → 0 < length bytes → end ≡ before sep bytes → part ≡ take end bytes → rest ≡ drop end bytes
     → parts sep bytes ≡ part ∷ parts sep (drop 1 rest)
@@ -56,9 +46,3 @@ pub tokens-none : (rest : List ℕ) → length rest ≡ 0 → tokens rest ≡ []
 unfolding tokens
 tokens-none [] e = refl
 tokens-none (b ∷ rest) e = absurd (omega arith)
-
--- Nothing has no token.
-pub token-none : (index : ℕ) (rest : List ℕ) → length rest ≡ 0 → token index (tokens rest) ≡ rest
-unfolding tokens
-token-none index [] e = refl
-token-none index (b ∷ rest) e = absurd (omega arith)

@@ -1,12 +1,13 @@
 -- What a reader keeps stays right when it takes a call.
 use Rattle.std.proofs.Common.{◌≡◌, ◌+◌, ◌-◌, ◌<◌, ◌≤◌, Bool, true, false, cond, ◌||◌, [], ◌∷◌, ◌++◌, length, set, Option, Some, None, is_some, is_none, ◌∙◌, length-append, length-set, arith}
 use Rattle.std.specs.Option.{IsSome}
+use Rattle.sid_core.specs.declared.limits.TheConstants.{MAX_CALLS}
 use Rattle.worker_script.specs.declared.script.Planned.{Planned}
 use Rattle.worker_script.specs.declared.script.Phase.{Phase}
 use Rattle.worker_script.specs.declared.reader.Reader.{Reader}
-use Rattle.worker_script.specs.Script.{numbers_of}
+use Rattle.worker_script.specs.Script.{numbers_of, is_status_call, statuses_in}
 use Rattle.worker_script.specs.Lines.{planned_in, with_planned}
-use Rattle.worker_script.specs.Calls.{has_stopped, is_status_call, statuses_in}
+use Rattle.worker_script.specs.Calls.{has_stopped}
 use Rattle.worker_script.specs.Reader.{draft_of, IsReader}
 use Rattle.worker_script.proofs.Counts.{all_calls-push}
 use Rattle.worker_script.proofs.Tallies.{AreTallies, tallies-plan, statuses-push}
@@ -19,7 +20,7 @@ never-none : (current : Option Phase) (planned : Planned) → IsSome current →
 never-none None planned some e = cc
 never-none (Some phase) planned some e = cc
 
-pub plan-reader : (before after : Reader) (planned : Planned) → IsReader before → IsSome before.current → before.calls < 20000
+pub plan-reader : (before after : Reader) (planned : Planned) → IsReader before → IsSome before.current → before.calls < MAX_CALLS
     → 1 ≤ planned.worker → planned.worker ≤ length before.workers
     → after.workers ≡ before.workers → after.files ≡ before.files → after.places ≡ before.places → after.phases ≡ before.phases
     → after.current ≡ with_planned before.current planned → after.calls ≡ before.calls + 1

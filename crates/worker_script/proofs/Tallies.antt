@@ -6,8 +6,8 @@ use Rattle.std.proofs.lemmas.Bool.Decides.{nat_tests}
 use Rattle.std.proofs.lemmas.List.{get_or-set_same, get_or-set_other}
 use Rattle.worker_script.specs.declared.script.Planned.{Planned}
 use Rattle.worker_script.specs.declared.reader.Tally.{Tally}
-use Rattle.worker_script.specs.Script.{numbers_of}
-use Rattle.worker_script.specs.Calls.{has_stopped, is_status_call, statuses_in}
+use Rattle.worker_script.specs.Script.{numbers_of, is_status_call, statuses_in}
+use Rattle.worker_script.specs.Calls.{has_stopped}
 use Rattle.worker_script.specs.Reader.{tally_in, no_tally}
 use Rattle.worker_script.proofs.Counts.{numbers_of-append, own_number-own, own_number-other}
 

@@ -1,20 +1,24 @@
 -- Call lines: which calls they spell, and what makes them bad.
 use Rattle.std.specs.Prelude.{ℕ, ◌-◌, Bool, true, false, not, ◌==◌, ◌&&◌, ◌||◌, nat_le, if◌then◌else◌, List, [], ◌∷◌, length, Option, Some, None, is_some, is_none, unwrap_or, Result, Ok, Err}
-use Rattle.std.specs.List.{list_any, count_by}
-use Rattle.std.specs.Option.{option_map, option_map_or}
+use Rattle.std.specs.List.{list_any}
+use Rattle.std.specs.Option.{option_map}
 use Rattle.sid_core.specs.declared.call.Call.{Call}
 use Rattle.sid_core.specs.declared.call.Call.TheVariants.{OpenFile, Close, Ack, Lock, Unlock, Read, Write, GLock, GUnlock, Recv, Disconnect, Reconnect, Scavenge, Tidy, Status}
 use Rattle.sid_core.specs.declared.call.Span.{Span}
 use Rattle.sid_core.specs.declared.outside.Point.{Point}
+use Rattle.sid_core.specs.declared.words.CallWord.{CallWord}
+use Rattle.sid_core.specs.declared.words.CallWord.TheVariants as word
+use Rattle.sid_core.specs.declared.limits.TheConstants.{MAX_CALLS, MAX_STATUS_CALLS}
+use Rattle.sid_core.specs.Words.{read_state, read_share, share_bits, read_lock_mode, read_glock_mode}
 use Rattle.worker_script.specs.declared.asked.Asked.{Asked}
+use Rattle.worker_script.specs.declared.reason.Reason.{Reason}
+use Rattle.worker_script.specs.declared.reason.Reason.TheVariants as reason
 use Rattle.worker_script.specs.declared.script.Planned.{Planned}
-use Rattle.worker_script.specs.declared.word.Word.{Word}
-use Rattle.worker_script.specs.declared.word.Word.TheVariants as word
 use Rattle.worker_script.specs.Text.{token}
-use Rattle.worker_script.specs.Values.{value, is_u32, is_u64, access, share}
-use Rattle.worker_script.specs.Words.{word_of, state_of, lock_mode, glock_mode, wait_of, stop_of}
+use Rattle.worker_script.specs.Values.{value, is_u32, is_u64, access}
+use Rattle.worker_script.specs.Words.{word_of, wait_of, stop_of}
 use Rattle.worker_script.specs.Options.{asked_in, flags_in, tables_of}
-use Rattle.worker_script.specs.Script.{is_built}
+use Rattle.worker_script.specs.Script.{statuses_in}
 use Rattle.worker_script.specs.Lines.{Draft, planned_in, first_fault, judged, is_declared, with_planned, next_number}
 
 -- The last token is the stop where it begins with `!` and isn't the first.
@@ -36,9 +40,10 @@ abbrev pub planned_stop : List (List ℕ) → Option Point
 planned_stop ts = if has_stop ts then stop_of (last_token ts) else None
 
 -- a line with this word has so many tokens
-abbrev pub is_length : Word → ℕ → Bool
+abbrev pub is_length : CallWord → ℕ → Bool
 is_length word.Open count = nat_le 5 count && nat_le count 8
 is_length word.Close count = count == 3
+is_length word.Delete count = false
 is_length word.Ack count = count == 4
 is_length word.Lock count = count == 7
 is_length word.Unlock count = count == 5
@@ -57,9 +62,10 @@ is_length word.Status count = nat_le 2 count && nat_le count 5
 abbrev pub are_span_numbers : List (List ℕ) → Bool
 are_span_numbers ts = is_u32 (token 2 ts) && is_u64 (token 3 ts) && is_u64 (token 4 ts)
 
-abbrev pub are_numbers : Word → List (List ℕ) → Bool
+abbrev pub are_numbers : CallWord → List (List ℕ) → Bool
 are_numbers word.Open ts = is_u32 (token 2 ts)
 are_numbers word.Close ts = is_u32 (token 2 ts)
+are_numbers word.Delete ts = false
 are_numbers word.Ack ts = is_u64 (token 2 ts)
 are_numbers word.Lock ts = are_span_numbers ts
 are_numbers word.Unlock ts = are_span_numbers ts
@@ -74,27 +80,20 @@ are_numbers word.Scavenge ts = true
 are_numbers word.Tidy ts = true
 are_numbers word.Status ts = true
 
-abbrev pub wrong_length : Option Word → ℕ → Bool
+abbrev pub wrong_length : Option CallWord → ℕ → Bool
 wrong_length None count = false
 wrong_length (Some w) count = not (is_length w count)
 
-abbrev pub wrong_number : Option Word → List (List ℕ) → Bool
+abbrev pub wrong_number : Option CallWord → List (List ℕ) → Bool
 wrong_number None ts = false
 wrong_number (Some w) ts = not (are_numbers w ts)
 
-abbrev pub is_status : Option Word → Bool
+abbrev pub is_status : Option CallWord → Bool
 is_status (Some word.Status) = true
 is_status _ = false
 
-abbrev pub is_status_call : Call → Bool
-is_status_call (Status tables) = true
-is_status_call _ = false
-
-abbrev pub statuses_in : List Planned → ℕ
-statuses_in calls = count_by (λ planned. is_status_call planned.call) calls
-
 -- `reconnect` names a worker that isn't declared.
-abbrev pub names_no_worker : Option Word → Draft → List (List ℕ) → Bool
+abbrev pub names_no_worker : Option CallWord → Draft → List (List ℕ) → Bool
 names_no_worker (Some word.Reconnect) draft ts = not (is_declared draft.workers (value (token 2 ts)))
 names_no_worker _ draft ts = false
 
@@ -105,9 +104,9 @@ has_stopped worker calls = list_any (λ planned. (planned.worker == worker) && i
 abbrev pub span_of : List (List ℕ) → Span
 span_of ts = record { start = value (token 3 ts); length = value (token 4 ts) }
 
-abbrev pub open_with : List (List ℕ) → Asked → Call
-open_with ts asked = OpenFile (value (token 2 ts)) (record { 0 = unwrap_or (access (token 3 ts)) 0 })
-    (record { 0 = unwrap_or (share (token 4 ts)) 0 }) asked.lease asked.durable asked.overwrite
+abbrev pub open_with : ℕ → List (List ℕ) → Asked → Call
+open_with file ts asked = OpenFile file (record { 0 = unwrap_or (access (token 3 ts)) 0 })
+    (unwrap_or (read_share (token 4 ts)) (share_bits 0)) asked.lease asked.durable asked.overwrite false
 
 abbrev pub both : {A B C : Type 0} → (A → B → C) → Option A → Option B → Option C
 both f None b = None
@@ -116,15 +115,16 @@ both f (Some a) (Some b) = Some (f a b)
 
 -- The call that a line with this word and so many tokens spells, unless an option, a state, a mode, `now`
 -- or `wait`, or a flag is wrong.
-unfoldable pub call_of : Word → ℕ → List (List ℕ) → Option Call
-call_of word.Open count ts = option_map (open_with ts) (asked_in count ts)
+unfoldable pub call_of : CallWord → ℕ → List (List ℕ) → Option Call
+call_of word.Open count ts = option_map (open_with (value (token 2 ts)) ts) (asked_in count ts)
 call_of word.Close count ts = Some (Close (value (token 2 ts)))
-call_of word.Ack count ts = option_map (λ state. Ack (value (token 2 ts)) state) (state_of (token 3 ts))
-call_of word.Lock count ts = both (λ mode wait. Lock (value (token 2 ts)) (span_of ts) mode wait) (lock_mode (token 5 ts)) (wait_of (token 6 ts))
+call_of word.Delete count ts = None
+call_of word.Ack count ts = option_map (λ state. Ack (value (token 2 ts)) state) (read_state (token 3 ts))
+call_of word.Lock count ts = both (λ mode wait. Lock (value (token 2 ts)) (span_of ts) mode wait) (read_lock_mode (token 5 ts)) (wait_of (token 6 ts))
 call_of word.Unlock count ts = Some (Unlock (value (token 2 ts)) (span_of ts))
 call_of word.Read count ts = Some (Read (value (token 2 ts)) (span_of ts))
 call_of word.Write count ts = Some (Write (value (token 2 ts)) (span_of ts))
-call_of word.GLock count ts = both (λ mode wait. GLock (value (token 2 ts)) mode wait) (glock_mode (token 3 ts)) (wait_of (token 4 ts))
+call_of word.GLock count ts = both (λ mode wait. GLock (value (token 2 ts)) mode wait) (read_glock_mode (token 3 ts)) (wait_of (token 4 ts))
 call_of word.GUnlock count ts = Some (GUnlock (value (token 2 ts)))
 call_of word.Recv count ts = Some Recv
 call_of word.Disconnect count ts = Some Disconnect
@@ -134,65 +134,65 @@ call_of word.Tidy count ts = Some Tidy
 call_of word.Status count ts = option_map (λ flags. Status (tables_of flags)) (flags_in count ts)
 
 -- what makes a call line bad, whether its word is known or not
-abbrev pub head_faults : Draft → Option Word → ℕ → List (List ℕ) → List (ℕ × Bool)
+abbrev pub head_faults : Draft → Option CallWord → ℕ → List (List ℕ) → List (Reason × Bool)
 head_faults draft w count ts =
-    (3, wrong_length w count)
-    ∷ (4, not (is_u32 (token 0 ts)) || wrong_number w ts)
-    ∷ (10, nat_le 20000 (length (planned_in draft)))
-    ∷ (11, is_status w && nat_le 100 (statuses_in (planned_in draft)))
-    ∷ (16, is_none draft.current)
-    ∷ (17, not (is_declared draft.workers (value (token 0 ts))) || names_no_worker w draft ts)
+    (reason.WrongLength, wrong_length w count)
+    ∷ (reason.WrongNumber, not (is_u32 (token 0 ts)) || wrong_number w ts)
+    ∷ (reason.TooManyCalls, nat_le MAX_CALLS (length (planned_in draft)))
+    ∷ (reason.TooManyStatuses, is_status w && nat_le MAX_STATUS_CALLS (statuses_in (planned_in draft)))
+    ∷ (reason.NoPhase, is_none draft.current)
+    ∷ (reason.UnknownWorker, not (is_declared draft.workers (value (token 0 ts))) || names_no_worker w draft ts)
     ∷ []
 
-unfoldable pub head_fault : Draft → Option Word → ℕ → List (List ℕ) → Option ℕ
+unfoldable pub head_fault : Draft → Option CallWord → ℕ → List (List ℕ) → Option Reason
 head_fault draft w count ts = first_fault (head_faults draft w count ts)
 
 -- the word, or the reason where it is unknown or missing
-abbrev pub known : Option Word → Result Word ℕ
-known None = Err 18
+abbrev pub known : Option CallWord → Result CallWord Reason
+known None = Err reason.UnknownCall
 known (Some w) = Ok w
 
 -- the word of a call line, or the least reason up to 18 for which the line is bad
-abbrev pub head : Draft → Option Word → ℕ → List (List ℕ) → Result Word ℕ
+abbrev pub head : Draft → Option CallWord → ℕ → List (List ℕ) → Result CallWord Reason
 head draft w count ts = judged (head_fault draft w count ts) (known w)
 
 -- what makes an open line bad
-abbrev pub open_faults : Draft → List (List ℕ) → List (ℕ × Bool)
-open_faults draft ts =
-    (19, not (is_declared draft.files (value (token 2 ts))))
-    ∷ (20, is_none (access (token 3 ts)))
-    ∷ (21, is_none (share (token 4 ts)))
+abbrev pub open_faults : Draft → ℕ → List (List ℕ) → List (Reason × Bool)
+open_faults draft file ts =
+    (reason.UnknownFile, not (is_declared draft.files file))
+    ∷ (reason.WrongAccess, is_none (access (token 3 ts)))
+    ∷ (reason.WrongShare, is_none (read_share (token 4 ts)))
     ∷ []
 
-unfoldable pub open_fault : Draft → Word → List (List ℕ) → Option ℕ
-open_fault draft word.Open ts = first_fault (open_faults draft ts)
+unfoldable pub open_fault : Draft → CallWord → List (List ℕ) → Option Reason
+open_fault draft word.Open ts = first_fault (open_faults draft (value (token 2 ts)) ts)
 open_fault draft _ ts = None
 
 -- what makes a call line bad where its worker had its stop, or by its own stop
-abbrev pub stop_faults : Draft → List (List ℕ) → List (ℕ × Bool)
+abbrev pub stop_faults : Draft → List (List ℕ) → List (Reason × Bool)
 stop_faults draft ts =
-    (23, has_stopped (value (token 0 ts)) (planned_in draft))
-    ∷ (24, has_stop ts && is_none (stop_of (last_token ts)))
+    (reason.AfterStop, has_stopped (value (token 0 ts)) (planned_in draft))
+    ∷ (reason.UnknownStop, has_stop ts && is_none (stop_of (last_token ts)))
     ∷ []
 
-unfoldable pub stop_fault : Draft → List (List ℕ) → Option ℕ
+unfoldable pub stop_fault : Draft → List (List ℕ) → Option Reason
 stop_fault draft ts = first_fault (stop_faults draft ts)
 
 -- the call that is spelled, or the least reason from 22 on
-abbrev pub spelled : Draft → List (List ℕ) → Option Call → Result Call ℕ
-spelled draft ts None = Err 22
+abbrev pub spelled : Draft → List (List ℕ) → Option Call → Result Call Reason
+spelled draft ts None = Err reason.WrongOption
 spelled draft ts (Some call) = judged (stop_fault draft ts) (Ok call)
 
 -- the call of a line with this word, or the least reason from 19 on for which the line is bad
-abbrev pub tail : Draft → ℕ → List (List ℕ) → Word → Result Call ℕ
+abbrev pub tail : Draft → ℕ → List (List ℕ) → CallWord → Result Call Reason
 tail draft count ts w = judged (open_fault draft w ts) (spelled draft ts (call_of w count ts))
 
-abbrev pub call_behind : Draft → ℕ → List (List ℕ) → Result Word ℕ → Result Call ℕ
+abbrev pub call_behind : Draft → ℕ → List (List ℕ) → Result CallWord Reason → Result Call Reason
 call_behind draft count ts (Ok w) = tail draft count ts w
-call_behind draft count ts (Err reason) = Err reason
+call_behind draft count ts (Err fault) = Err fault
 
 -- the call that a call line spells, or the least reason for which the line is bad
-unfoldable pub call_in : Draft → List (List ℕ) → Result Call ℕ
+unfoldable pub call_in : Draft → List (List ℕ) → Result Call Reason
 call_in draft ts = call_behind draft (call_length ts) ts (head draft (word_of (token 1 ts)) (call_length ts) ts)
 
 abbrev pub planned_call : Draft → ℕ → Call → Option Point → Planned
@@ -202,22 +202,9 @@ abbrev pub with_call : Draft → ℕ → Call → Option Point → Draft
 with_call draft worker call stop = record draft { current = with_planned draft.current (planned_call draft worker call stop) }
 
 -- the call that is spelled is planned
-abbrev pub after_call : Draft → List (List ℕ) → Result Call ℕ → Result Draft ℕ
+abbrev pub after_call : Draft → List (List ℕ) → Result Call Reason → Result Draft Reason
 after_call draft ts (Ok call) = Ok (with_call draft (value (token 0 ts)) call (planned_stop ts))
-after_call draft ts (Err reason) = Err reason
+after_call draft ts (Err fault) = Err fault
 
-unfoldable pub call_line : Draft → List (List ℕ) → Result Draft ℕ
+unfoldable pub call_line : Draft → List (List ℕ) → Result Draft Reason
 call_line draft ts = after_call draft ts (call_in draft ts)
-
--- the call where the word is known and what stands behind it is right
-abbrev pub known_call : Option Word → ℕ → List (List ℕ) → Option Call
-known_call None count ts = None
-known_call (Some w) count ts = call_of w count ts
-
--- the call that the tokens of a call line spell
-abbrev pub spelled_call : List (List ℕ) → Option Call
-spelled_call ts = known_call (word_of (token 1 ts)) (call_length ts) ts
-
--- Built are calls of the built forms, of the first worker and without a stop.
-unfoldable pub is_built_call : List (List ℕ) → Bool
-is_built_call ts = (value (token 0 ts) == 1) && not (has_stop ts) && option_map_or is_built (spelled_call ts) false

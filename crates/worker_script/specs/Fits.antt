@@ -1,5 +1,5 @@
 -- Which histories fit a script.
-use Rattle.std.specs.Prelude.{◌≡◌, ℕ, ◌+◌, ◌⊎◌, Bool, true, false, ◌==◌, ◌&&◌, cond, IsTrue, List, [], ◌∷◌, ◌++◌, Option, Some, None, is_some}
+use Rattle.std.specs.Prelude.{◌≡◌, ℕ, ◌+◌, ◌⊎◌, Bool, true, false, ◌==◌, ◌&&◌, cond, IsTrue, List, [], ◌∷◌, ◌++◌, length, take, Option, Some, None, is_some}
 use Rattle.std.specs.List.{AllByRecursion, list_any}
 use Rattle.sid_core.specs.declared.call.Call.{Call}
 use Rattle.sid_core.specs.declared.call.Call.TheVariants.{Tidy}
@@ -37,6 +37,7 @@ is_entered (Some point.Intent) = false
 is_entered (Some point.Commit) = true
 is_entered (Some point.Store) = true
 is_entered (Some point.Release) = true
+is_entered (Some point.Mourn) = false
 
 abbrev pub own_plan : ℕ → Planned → List (ℕ × Call)
 own_plan worker planned = cond ((planned.worker == worker) && is_entered planned.stop) ((planned.number, planned.call) ∷ []) []
@@ -129,7 +130,11 @@ AreEnteredByLiving setup dead [] = Unit {0}
 AreEnteredByLiving setup dead (entry ∷ entries) =
     IsEnteredBy setup dead entry.by entry.what × AreEnteredByLiving setup (dead_after dead entry.what) entries
 
--- The history has what the phases plan, and each death in it is entered by the runner or by a living worker.
-pub record Fits (script : Script) (entries : List Entry) : Type 0 where
-  pub phases : FitsPhases script.phases entries
+-- The history has what the first so many phases plan, and each death in it is entered by the runner or by a living worker.
+pub record FitsFirst (count : ℕ) (script : Script) (entries : List Entry) : Type 0 where
+  pub phases : FitsPhases (take count script.phases) entries
   pub entered : AreEnteredByLiving script.setup [] entries
+
+-- The same of all phases.
+abbrev pub Fits : Script → List Entry → Type 0
+Fits script entries = FitsFirst (length script.phases) script entries

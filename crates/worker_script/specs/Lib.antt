@@ -1,14 +1,19 @@
+-- the rules
+pub mod Reason
 pub mod Script
 pub mod Fits
 pub mod Text
 pub mod Values
 pub mod Words
 pub mod Options
-pub mod Line
 pub mod Lines
-pub mod Reading
-pub mod Search
 pub mod Calls
+pub mod Reading
+pub mod Answer
+pub mod Spelling
+-- the code's own
+pub mod Search
+pub mod Line
 pub mod Reader
 pub mod Numbers
-pub mod Answer
+pub mod Operands

@@ -1,4 +1,4 @@
--- What is kept of a line that was split.
+-- The code's own: what is kept of a line that was split.
 use Rattle.std.specs.Prelude.{◌≡◌, ℕ, ◌<◌, List, length, slice_get, IfSome}
 use Rattle.std.specs.Borrow.{Bor}
 use Rattle.worker_script.specs.Text.{token}

@@ -1,9 +1,12 @@
 -- What each line of a script does, and what makes it bad.
-use Rattle.std.specs.Prelude.{ℕ, ◌+◌, ◌-◌, ◌^◌, Bool, not, cond, ◌==◌, ◌&&◌, nat_le, nat_lt, List, [], ◌∷◌, ◌++◌, length, Option, Some, None, is_some, Result, Ok, Err}
+use Rattle.std.specs.Prelude.{ℕ, ◌+◌, ◌-◌, ◌^◌, Bool, false, not, cond, ◌==◌, ◌&&◌, nat_le, nat_lt, List, [], ◌∷◌, ◌++◌, length, Option, Some, None, is_some, Result, Ok, Err}
 use Rattle.std.specs.List.{list_any}
 use Rattle.std.specs.Option.{option_to_list}
 use Rattle.sid_core.specs.declared.setup.WorkerInfo.{WorkerInfo}
 use Rattle.sid_core.specs.declared.setup.FileInfo.{FileInfo}
+use Rattle.sid_core.specs.declared.limits.TheConstants.{MAX_WORKERS, MAX_FILES, MAX_PHASES, MAX_MOMENT}
+use Rattle.worker_script.specs.declared.reason.Reason.{Reason}
+use Rattle.worker_script.specs.declared.reason.Reason.TheVariants as reason
 use Rattle.worker_script.specs.declared.script.Planned.{Planned}
 use Rattle.worker_script.specs.declared.script.Phase.{Phase}
 use Rattle.worker_script.specs.declared.script.Script.{Script}
@@ -32,34 +35,34 @@ planned_in draft = all_calls (phases_of draft)
 
 -- A fault that a line may have is its reason, and whether the line has it. The first one that the line has
 -- is told. The reasons of each list below rise, so that is the one with the least reason.
-abbrev pub first_fault : List (ℕ × Bool) → Option ℕ
+abbrev pub first_fault : List (Reason × Bool) → Option Reason
 first_fault [] = None
 first_fault (fault ∷ faults) = cond fault.1 (Some fault.0) (first_fault faults)
 
 -- the fault, or else the answer
-abbrev pub judged : {X : Type 0} → Option ℕ → Result X ℕ → Result X ℕ
+abbrev pub judged : {X : Type 0} → Option Reason → Result X Reason → Result X Reason
 judged None answer = answer
-judged (Some reason) answer = Err reason
+judged (Some fault) answer = Err fault
 
-abbrev pub checked : Option ℕ → Draft → Result Draft ℕ
+abbrev pub checked : Option Reason → Draft → Result Draft Reason
 checked fault draft = judged fault (Ok draft)
 
 -- `worker W PID UID GUID MACHINE SHARE`
 abbrev pub are_worker_numbers : List (List ℕ) → Bool
 are_worker_numbers ts = is_u32 (token 1 ts) && is_number 1 (2 ^ 32 - 1) (token 2 ts) && is_u32 (token 3 ts) && is_u64 (token 4 ts)
 
-abbrev pub worker_faults : Draft → List (List ℕ) → List (ℕ × Bool)
+abbrev pub worker_faults : Draft → List (List ℕ) → List (Reason × Bool)
 worker_faults draft ts =
-    (3, not (length ts == 7))
-    ∷ (4, not (are_worker_numbers ts))
-    ∷ (5, is_some draft.current)
-    ∷ (6, not (value (token 1 ts) == length draft.workers + 1))
-    ∷ (7, nat_le 64 (length draft.workers))
-    ∷ (12, list_any (λ worker. worker.pid == value (token 2 ts)) draft.workers)
-    ∷ (14, not (is_short (token 5 ts) && is_short (token 6 ts)))
+    (reason.WrongLength, not (length ts == 7))
+    ∷ (reason.WrongNumber, not (are_worker_numbers ts))
+    ∷ (reason.LateDeclaration, is_some draft.current)
+    ∷ (reason.NotNext, not (value (token 1 ts) == length draft.workers + 1))
+    ∷ (reason.TooManyWorkers, nat_le MAX_WORKERS (length draft.workers))
+    ∷ (reason.KnownPid, list_any (λ worker. worker.pid == value (token 2 ts)) draft.workers)
+    ∷ (reason.LongText, not (is_short (token 5 ts) && is_short (token 6 ts)))
     ∷ []
 
-unfoldable pub worker_fault : Draft → List (List ℕ) → Option ℕ
+unfoldable pub worker_fault : Draft → List (List ℕ) → Option Reason
 worker_fault draft ts = first_fault (worker_faults draft ts)
 
 abbrev pub worker_info : List (List ℕ) → WorkerInfo
@@ -69,9 +72,10 @@ worker_info ts = record {
   guid = value (token 4 ts);
   machine = token 5 ts;
   share = token 6 ts;
+  old = false;
 }
 
-unfoldable pub worker_line : Draft → List (List ℕ) → Result Draft ℕ
+unfoldable pub worker_line : Draft → List (List ℕ) → Result Draft Reason
 worker_line draft ts =
     checked (worker_fault draft ts) (record draft { workers = draft.workers ++ worker_info ts ∷ [] })
 
@@ -82,24 +86,24 @@ are_file_numbers ts = is_u32 (token 1 ts) && is_u64 (token 2 ts) && is_u64 (toke
 abbrev pub is_place : ℕ → ℕ → FileInfo → Bool
 is_place dev inode file = (file.dev == dev) && (file.inode == inode)
 
-abbrev pub file_faults : Draft → List (List ℕ) → List (ℕ × Bool)
+abbrev pub file_faults : Draft → List (List ℕ) → List (Reason × Bool)
 file_faults draft ts =
-    (3, not (length ts == 6))
-    ∷ (4, not (are_file_numbers ts))
-    ∷ (5, is_some draft.current)
-    ∷ (6, not (value (token 1 ts) == length draft.files + 1))
-    ∷ (8, nat_le 10000 (length draft.files))
-    ∷ (13, list_any (is_place (value (token 2 ts)) (value (token 3 ts))) draft.files)
-    ∷ (14, not (is_short (token 4 ts) && is_short (token 5 ts)))
+    (reason.WrongLength, not (length ts == 6))
+    ∷ (reason.WrongNumber, not (are_file_numbers ts))
+    ∷ (reason.LateDeclaration, is_some draft.current)
+    ∷ (reason.NotNext, not (value (token 1 ts) == length draft.files + 1))
+    ∷ (reason.TooManyFiles, nat_le MAX_FILES (length draft.files))
+    ∷ (reason.KnownPlace, list_any (is_place (value (token 2 ts)) (value (token 3 ts))) draft.files)
+    ∷ (reason.LongText, not (is_short (token 4 ts) && is_short (token 5 ts)))
     ∷ []
 
-unfoldable pub file_fault : Draft → List (List ℕ) → Option ℕ
+unfoldable pub file_fault : Draft → List (List ℕ) → Option Reason
 file_fault draft ts = first_fault (file_faults draft ts)
 
 abbrev pub file_info : List (List ℕ) → FileInfo
 file_info ts = record { dev = value (token 2 ts); inode = value (token 3 ts); path = token 4 ts; name = token 5 ts }
 
-unfoldable pub file_line : Draft → List (List ℕ) → Result Draft ℕ
+unfoldable pub file_line : Draft → List (List ℕ) → Result Draft Reason
 file_line draft ts = checked (file_fault draft ts) (record draft { files = draft.files ++ file_info ts ∷ [] })
 
 -- `phase MOMENT`
@@ -107,21 +111,21 @@ abbrev pub moment_of : Option Phase → ℕ
 moment_of None = 0
 moment_of (Some phase) = phase.moment.0
 
-abbrev pub phase_faults : Draft → List (List ℕ) → List (ℕ × Bool)
+abbrev pub phase_faults : Draft → List (List ℕ) → List (Reason × Bool)
 phase_faults draft ts =
-    (3, not (length ts == 2))
-    ∷ (4, not (is_number 0 9999999999 (token 1 ts)))
-    ∷ (9, nat_le 10000 (length (phases_of draft)))
-    ∷ (15, nat_lt (value (token 1 ts)) (moment_of draft.current))
+    (reason.WrongLength, not (length ts == 2))
+    ∷ (reason.WrongNumber, not (is_number 0 MAX_MOMENT (token 1 ts)))
+    ∷ (reason.TooManyPhases, nat_le MAX_PHASES (length (phases_of draft)))
+    ∷ (reason.EarlierMoment, nat_lt (value (token 1 ts)) (moment_of draft.current))
     ∷ []
 
-unfoldable pub phase_fault : Draft → List (List ℕ) → Option ℕ
+unfoldable pub phase_fault : Draft → List (List ℕ) → Option Reason
 phase_fault draft ts = first_fault (phase_faults draft ts)
 
 abbrev pub new_phase : ℕ → Phase
 new_phase moment = record { moment = record { 0 = moment }; calls = [] }
 
-unfoldable pub phase_line : Draft → List (List ℕ) → Result Draft ℕ
+unfoldable pub phase_line : Draft → List (List ℕ) → Result Draft Reason
 phase_line draft ts =
     checked (phase_fault draft ts) (record draft { phases = phases_of draft; current = Some (new_phase (value (token 1 ts))) })
 

@@ -1,4 +1,4 @@
--- The numbers that stand in a line.
+-- The code's own: the numbers that are kept of a worker or a file line.
 use Rattle.std.specs.Prelude.{ℕ, List}
 use Rattle.worker_script.specs.declared.file.FileNumbers.{FileNumbers}
 use Rattle.worker_script.specs.declared.worker.WorkerNumbers.{WorkerNumbers}

@@ -6,10 +6,9 @@ use Rattle.sid_core.specs.declared.call.LeaseAsk.{LeaseAsk}
 use Rattle.sid_core.specs.declared.call.Tables.{Tables}
 use Rattle.worker_script.specs.declared.asked.Asked.{Asked}
 use Rattle.worker_script.specs.declared.asked.Flags.{Flags}
-use Rattle.worker_script.specs.Search.{before}
-use Rattle.worker_script.specs.Text.{token}
+use Rattle.worker_script.specs.Text.{before, token}
 use Rattle.worker_script.specs.Values.{value, is_number, is_u64}
-use Rattle.worker_script.specs.Words.{lease_state, state_of}
+use Rattle.sid_core.specs.Words.{lease_state, read_state}
 
 abbrev pub no_options : Asked
 no_options = record { lease = None; durable = 0; overwrite = false }
@@ -24,7 +23,7 @@ abbrev pub key_of : List ℕ → List ℕ
 key_of lease = take (before 58 lease) lease
 
 abbrev pub state_in : List ℕ → Option LeaseState
-state_in lease = state_of (drop (before 58 lease + 1) lease)
+state_in lease = read_state (drop (before 58 lease + 1) lease)
 
 abbrev pub lease_ask : List ℕ → LeaseAsk
 lease_ask lease = record { key = value (key_of lease); state = unwrap_or (state_in lease) (lease_state 0) }

@@ -1,5 +1,5 @@
 -- The lines of a script, and the tokens of a line.
-use Rattle.std.specs.Prelude.{ℕ, ◌-◌, Bool, true, false, not, ◌==◌, ◌&&◌, nat_le, if◌then◌else◌, List, [], ◌∷◌, filter}
+use Rattle.std.specs.Prelude.{ℕ, ◌+◌, ◌-◌, Bool, true, false, not, ◌==◌, ◌&&◌, nat_le, if◌then◌else◌, List, [], ◌∷◌, filter}
 use Rattle.std.specs.List.{onto_first}
 
 -- The parts that end with a separator. The last one may lack it.
@@ -7,6 +7,11 @@ abbrev pub parts : ℕ → List ℕ → List (List ℕ)
 parts separator [] = []
 parts separator (b ∷ bytes) =
     if b == separator then [] ∷ parts separator bytes else onto_first b (parts separator bytes)
+
+-- how many bytes stand before the first separator
+abbrev pub before : ℕ → List ℕ → ℕ
+before separator [] = 0
+before separator (b ∷ bytes) = if b == separator then 0 else before separator bytes + 1
 
 abbrev pub lines : List ℕ → List (List ℕ)
 lines bytes = parts 0x0A bytes

@@ -1,8 +1,8 @@
 -- What a token spells.
-use Rattle.std.specs.Prelude.{ℕ, ◌+◌, ◌-◌, ◌*◌, ◌^◌, Bool, ◌==◌, ◌&&◌, nat_le, nat_lt, if◌then◌else◌, List, [], ◌∷◌, length, Option, Some, None, codes}
+use Rattle.std.specs.Prelude.{ℕ, ◌+◌, ◌-◌, ◌*◌, ◌^◌, Bool, ◌==◌, ◌&&◌, nat_le, nat_lt, if◌then◌else◌, List, [], ◌∷◌, length, Option, Some, None}
 use Rattle.std.specs.List.{list_all}
-use Rattle.std.specs.Str.{bytes_eq}
 use Rattle.std.specs.Int.RustNames.{bit_and}
+use Rattle.sid_core.specs.declared.limits.TheConstants.{ACCESS_MASK, MAX_TEXT}
 
 abbrev pub is_digit : ℕ → Bool
 is_digit byte = nat_le 48 byte && nat_le byte 57
@@ -31,7 +31,7 @@ abbrev pub is_u64 : List ℕ → Bool
 is_u64 token = is_number 0 (2 ^ 64 - 1) token
 
 abbrev pub is_short : List ℕ → Bool
-is_short text = nat_le (length text) 255
+is_short text = nat_le (length text) MAX_TEXT
 
 -- what a hexadecimal digit of either case stands for
 abbrev pub hex_digit : ℕ → Option ℕ
@@ -49,7 +49,7 @@ hex_after n (byte ∷ bytes) = elim (hex_digit byte) [ None ↦ None | Some digi
 -- some of the fourteen access rights, and nothing else
 abbrev pub known_access : Option ℕ → Option ℕ
 known_access None = None
-known_access (Some bits) = if nat_lt 0 bits && (bit_and bits 0x1F01FF == bits) then Some bits else None
+known_access (Some bits) = if nat_lt 0 bits && (bit_and bits ACCESS_MASK == bits) then Some bits else None
 
 -- `0x` and 1 to 8 hexadecimal digits
 unfoldable pub access : List ℕ → Option ℕ
@@ -58,16 +58,3 @@ access (first ∷ second ∷ digits) =
     then known_access (hex_after 0 digits) else None
 access (first ∷ []) = None
 access [] = None
-
--- the share bits: 1 for `r`, 2 for `w` and 4 for `d`
-unfoldable pub share : List ℕ → Option ℕ
-share token =
-    if bytes_eq token (codes "-") then Some 0
-    else if bytes_eq token (codes "r") then Some 1
-    else if bytes_eq token (codes "w") then Some 2
-    else if bytes_eq token (codes "rw") then Some 3
-    else if bytes_eq token (codes "d") then Some 4
-    else if bytes_eq token (codes "rd") then Some 5
-    else if bytes_eq token (codes "wd") then Some 6
-    else if bytes_eq token (codes "rwd") then Some 7
-    else None

@@ -1,5 +1,7 @@
 ghost use Rattle.std.specs.Prelude.{◌≡◌, ◌<◌, ◌≤◌, IfSome, length};
-ghost use Rattle.worker_script.specs.Values.{hex_digit, hex_after, known_access, access, share};
+ghost use Rattle.worker_script.specs.Values.{hex_digit, hex_after, known_access, access};
+
+use sid_core::ACCESS_MASK;
 
 // What a hexadecimal digit of either case stands for.
 fn hex_digit(byte: u8) -> Option<u32>
@@ -32,7 +34,7 @@ fn hex_value(digits: &[u8]) -> Option<u32>
 fn known(bits: u32) -> Option<u32>
     ensures { result ≡ known_access (Some bits) }
 {
-    if 0 < bits && bits & 0x1F01FF == bits {
+    if 0 < bits && bits & ACCESS_MASK == bits {
         Some(bits)
     } else {
         None
@@ -53,31 +55,5 @@ pub(crate) fn access(token: &[u8]) -> Option<u32>
             known(bits)
         }
         _ => None,
-    }
-}
-
-/// The share bits that a token spells.
-#[tactic(auto, unfolding(crate::specs::Values::share))]
-pub(crate) fn share(token: &[u8]) -> Option<u32>
-    ensures { result ≡ share token.now }
-{
-    if token == b"-".as_slice() {
-        Some(0)
-    } else if token == b"r".as_slice() {
-        Some(1)
-    } else if token == b"w".as_slice() {
-        Some(2)
-    } else if token == b"rw".as_slice() {
-        Some(3)
-    } else if token == b"d".as_slice() {
-        Some(4)
-    } else if token == b"rd".as_slice() {
-        Some(5)
-    } else if token == b"wd".as_slice() {
-        Some(6)
-    } else if token == b"rwd".as_slice() {
-        Some(7)
-    } else {
-        None
     }
 }

@@ -8,9 +8,9 @@ pub(crate) struct Asked {
     pub overwrite: bool,
 }
 
-/// The flags of a status call: shares only, files only, and ranges too.
+/// The flags of a status call, and of the command `smbstatus`: shares only (`-S`), files only (`-L`), and ranges too (`-B`).
 #[derive(Clone, Copy, Debug, PartialEq, Eq)]
-pub(crate) struct Flags {
+pub struct Flags {
     pub shares: bool,
     pub files: bool,
     pub ranges: bool,

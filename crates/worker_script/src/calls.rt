@@ -1,30 +1,27 @@
-ghost use Rattle.std.specs.Prelude.{◌≡◌, ◌<◌, ◌≤◌, Some, Ok, Err, OnOk, IfOk, IfErr, IsSome, true, false, length};
+ghost use Rattle.std.specs.Prelude.{◌≡◌, ◌<◌, ◌≤◌, false, Some, Ok, Err, OnOk, IfOk, IfErr, IsSome, length};
+ghost use Rattle.sid_core.specs.declared.limits.TheConstants.{MAX_CALLS};
 ghost use Rattle.worker_script.specs.Text.{token};
-ghost use Rattle.worker_script.specs.Values.{value, is_u32};
-ghost use Rattle.worker_script.specs.Lines.{is_declared, planned_in};
-ghost use Rattle.worker_script.specs.Calls.{are_numbers, wrong_number, names_no_worker, planned_stop, head_fault, open_fault, stop_fault, spelled, tail, call_in, call_of, call_line, spelled_call, is_built_call};
-ghost use Rattle.worker_script.specs.Script.{is_built};
+ghost use Rattle.worker_script.specs.Values.{value};
+ghost use Rattle.worker_script.specs.Lines.{is_declared};
+ghost use Rattle.worker_script.specs.Calls.{wrong_number, names_no_worker, head_fault, stop_fault, call_in, call_line};
+ghost use Rattle.worker_script.specs.Operands.{stop_in, numbers_in, names_nobody, judged_call, unless_stopped};
 ghost use Rattle.worker_script.specs.Reader.{draft_of, IsReader, Finds, Reads};
 
-use crate::access::{access, share};
 use crate::fault::Fault;
 use crate::line::Line;
-use crate::number::number_u32;
+use crate::numbered::{Numbered, is_status, numbers_in, wrong_length, wrong_number};
+use crate::numeral::number_u32;
 use crate::reader::Reader;
-use crate::shape::{call_length, has_stop, is_status, wrong_length, wrong_number};
-use crate::spelled::{call_of, u32_at};
-use crate::word::{Word, stop_of, word_of};
-use sid_core::{Call, Point};
+use crate::reason::Reason;
+use crate::stop::{Stop, split_stop};
+use crate::word::word_of;
+use sid_core::{Call, CallWord, MAX_CALLS, MAX_STATUS_CALLS};
 
-#[tactic(auto, unfolding(crate::specs::Calls::has_stop))]
-fn planned_stop(line: &Line<'_>) -> Option<Point>
-    ensures { result ≡ planned_stop line.now }
-{
-    if has_stop(line) {
-        stop_of(line.last())
-    } else {
-        None
-    }
+/// What is read of a call line before its call: its worker, and the numbers behind its word, where it has one.
+#[derive(Clone, Copy)]
+struct Head {
+    worker: u32,
+    numbered: Option<Numbered>,
 }
 
 impl Reader {
@@ -34,184 +31,134 @@ impl Reader {
         1 <= worker && worker as usize <= self.workers.len()
     }
 
-    fn has_file(&self, file: u32) -> bool
-        ensures { result ≡ is_declared self.now.files file }
-    {
-        1 <= file && file as usize <= self.files.len()
-    }
-
     // Whether a `reconnect` line names a worker that isn't declared.
-    fn names_no_worker(&self, word: Option<Word>, line: &Line<'_>) -> bool
-        requires { wrong_number word line.now ≡ false }
+    #[tactic(auto, using(crate::proofs::Operands::names_no_worker_is))]
+    fn names_no_worker(
+        &self,
+        word: Option<CallWord>,
+        numbered: Option<Numbered>,
+        line: &Line<'_>,
+    ) -> bool
+        requires kept { numbered ≡ numbers_in word line.now }
+        requires numbers { wrong_number word line.now ≡ false }
         ensures { result ≡ names_no_worker word (draft_of self.now) line.now }
     {
-        match word {
-            Some(Word::Reconnect) => !self.has_worker(u32_at(2, line)),
+        self.names_nobody(numbered)
+    }
+
+    fn names_nobody(&self, numbered: Option<Numbered>) -> bool
+        ensures { result ≡ names_nobody (draft_of self.now) numbered }
+    {
+        match numbered {
+            Some(Numbered::Reconnect { worker, .. }) => !self.has_worker(worker),
             _ => false,
         }
     }
 
-    // What makes a call line bad whether its word is known or not, or its worker.
+    // What makes a call line bad whether its word is known or not, or its worker and its numbers.
     #[tactic(auto, unfolding(crate::specs::Calls::head_fault))]
-    fn head_fault(&self, word: Option<Word>, count: usize, line: &Line<'_>) -> Result<u32, u32>
+    fn head(&self, word: Option<CallWord>, count: usize, line: &Line<'_>) -> Result<Head, Reason>
         requires { IsReader self.now }
-        ensures fault { Finds (head_fault (draft_of self.now) word count line.now) (value (token 0 line.now)) result }
-        ensures room { OnOk result (self.now.calls < 20000) }
-        ensures phase { OnOk result (IsSome self.now.current) }
-        ensures some { IfOk result (λ worker. 1 ≤ worker) }
-        ensures declared { IfOk result (λ worker. worker ≤ length self.now.workers) }
+        ensures fault { Finds (head_fault (draft_of self.now) word count line.now) (record { worker = value (token 0 line.now); numbered = numbers_in word line.now }) result }
         ensures numbers { OnOk result (wrong_number word line.now ≡ false) }
+        ensures room { OnOk result (self.now.calls < MAX_CALLS) }
+        ensures phase { OnOk result (IsSome self.now.current) }
+        ensures some { IfOk result (λ head. 1 ≤ head.worker) }
+        ensures declared { IfOk result (λ head. head.worker ≤ length self.now.workers) }
     {
         if wrong_length(word, count) {
-            return Err(3);
+            return Err(Reason::WrongLength);
         }
         let Some(worker) = number_u32(line.token(0)) else {
-            return Err(4);
+            return Err(Reason::WrongNumber);
         };
-        if wrong_number(word, line) {
-            return Err(4);
+        let numbered = numbers_in(word, line);
+        if wrong_number(word, numbered, line) {
+            return Err(Reason::WrongNumber);
         }
-        if 20_000 <= self.calls {
-            return Err(10);
+        if MAX_CALLS <= self.calls {
+            return Err(Reason::TooManyCalls);
         }
-        if is_status(word) && 100 <= self.statuses {
-            return Err(11);
+        if is_status(word) && MAX_STATUS_CALLS <= self.statuses {
+            return Err(Reason::TooManyStatuses);
         }
         if self.current.is_none() {
-            return Err(16);
+            return Err(Reason::NoPhase);
         }
-        if !self.has_worker(worker) || self.names_no_worker(word, line) {
-            return Err(17);
+        if !self.has_worker(worker) || self.names_no_worker(word, numbered, line) {
+            return Err(Reason::UnknownWorker);
         }
-        Ok(worker)
-    }
-
-    // What makes an open line bad.
-    #[tactic(auto, unfolding(crate::specs::Calls::open_fault))]
-    fn open_fault(&self, word: Word, line: &Line<'_>) -> Result<(), u32>
-        requires { are_numbers word line.now ≡ true }
-        ensures { Finds (open_fault (draft_of self.now) word line.now) tt result }
-    {
-        match word {
-            Word::Open => self.open_line_fault(line),
-            _ => Ok(()),
-        }
-    }
-
-    #[tactic(auto, unfolding(crate::specs::Calls::open_fault))]
-    fn open_line_fault(&self, line: &Line<'_>) -> Result<(), u32>
-        requires { is_u32 (token 2 line.now) ≡ true }
-        ensures { Finds (open_fault (draft_of self.now) Word.Open line.now) tt result }
-    {
-        if !self.has_file(u32_at(2, line)) {
-            return Err(19);
-        }
-        if access(line.token(3)).is_none() {
-            return Err(20);
-        }
-        if share(line.token(4)).is_none() {
-            return Err(21);
-        }
-        Ok(())
+        Ok(Head { worker, numbered })
     }
 
     // What makes a call line bad where its worker had its stop, or by its own stop.
-    #[tactic(auto, unfolding(crate::specs::Calls::stop_fault))]
-    fn stop_fault(&self, worker: u32, line: &Line<'_>) -> Result<(), u32>
+    #[tactic(auto, using(crate::proofs::Operands::unknown_is), unfolding(crate::specs::Calls::stop_fault))]
+    fn stop_fault(&self, worker: u32, stop: Stop, line: &Line<'_>) -> Result<(), Reason>
         requires reader { IsReader self.now }
         requires worker { worker ≡ value (token 0 line.now) }
+        requires stop { stop ≡ stop_in line.now }
         requires some { 1 ≤ worker }
         requires declared { worker ≤ length self.now.workers }
         ensures { Finds (stop_fault (draft_of self.now) line.now) tt result }
     {
         if self.has_stopped(worker) {
-            return Err(23);
+            return Err(Reason::AfterStop);
         }
-        if has_stop(line) && stop_of(line.last()).is_none() {
-            return Err(24);
+        if stop.is_unknown() {
+            return Err(Reason::UnknownStop);
         }
         Ok(())
     }
 
-    // The call that is spelled, or what makes the line bad from reason 22 on.
-    fn spelled(&self, word: Word, worker: u32, count: usize, line: &Line<'_>) -> Result<Call, u32>
+    // The call of a line with these numbers, or what makes the line bad from reason 19 on.
+    fn tail(
+        &self,
+        numbered: Numbered,
+        worker: u32,
+        count: usize,
+        stop: Stop,
+        line: &Line<'_>,
+    ) -> Result<Call, Reason>
         requires reader { IsReader self.now }
-        requires numbers { are_numbers word line.now ≡ true }
         requires worker { worker ≡ value (token 0 line.now) }
+        requires stop { stop ≡ stop_in line.now }
         requires some { 1 ≤ worker }
         requires declared { worker ≤ length self.now.workers }
-        ensures judged { result ≡ spelled (draft_of self.now) line.now (call_of word count line.now) }
-        ensures call { IfOk result (λ call. call_of word count line.now ≡ Some call) }
+        ensures { result ≡ unless_stopped (draft_of self.now) line.now (judged_call (draft_of self.now) numbered count line.now) }
     {
-        let Some(call) = call_of(word, count, line) else {
-            return Err(22);
-        };
-        self.stop_fault(worker, line)?;
+        let call = self.judged_call(numbered, count, line)?;
+        self.stop_fault(worker, stop, line)?;
         Ok(call)
     }
 
-    // The call of a line with this word, or what makes the line bad from reason 19 on.
-    fn tail(&self, word: Word, worker: u32, count: usize, line: &Line<'_>) -> Result<Call, u32>
-        requires reader { IsReader self.now }
-        requires numbers { are_numbers word line.now ≡ true }
-        requires worker { worker ≡ value (token 0 line.now) }
-        requires some { 1 ≤ worker }
-        requires declared { worker ≤ length self.now.workers }
-        ensures judged { result ≡ tail (draft_of self.now) count line.now word }
-        ensures call { IfOk result (λ call. call_of word count line.now ≡ Some call) }
-    {
-        self.open_fault(word, line)?;
-        self.spelled(word, worker, count, line)
-    }
-
-    // The worker and the call of a call line, or what makes it bad.
-    #[tactic(auto, unfolding(crate::specs::Calls::call_in))]
-    fn call_in(&self, line: &Line<'_>) -> Result<(u32, Call), u32>
+    // The worker, the call and the stop of a call line, or what makes it bad.
+    #[tactic(auto, using(crate::proofs::Operands::call_in_is), unfolding(crate::specs::Calls::call_in))]
+    fn call_in(&self, line: &Line<'_>) -> Result<(u32, Call, Stop), Reason>
         requires { IsReader self.now }
         ensures call { IfOk result (λ found. call_in (draft_of self.now) line.now ≡ Ok found.1) }
         ensures fault { IfErr result (λ reason. call_in (draft_of self.now) line.now ≡ Err reason) }
         ensures worker { IfOk result (λ found. found.0 ≡ value (token 0 line.now)) }
-        ensures spelled { IfOk result (λ found. spelled_call line.now ≡ Some found.1) }
-        ensures room { OnOk result (self.now.calls < 20000) }
+        ensures stop { IfOk result (λ found. found.2 ≡ stop_in line.now) }
+        ensures room { OnOk result (self.now.calls < MAX_CALLS) }
         ensures phase { OnOk result (IsSome self.now.current) }
         ensures some { IfOk result (λ found. 1 ≤ found.0) }
         ensures declared { IfOk result (λ found. found.0 ≤ length self.now.workers) }
     {
-        let count = call_length(line);
-        let word = word_of(line.token(1));
-        let worker = self.head_fault(word, count, line)?;
-        let Some(word) = word else {
-            return Err(18);
+        let (count, stop) = split_stop(line);
+        let head = self.head(word_of(line.token(1)), count, line)?;
+        let Some(numbered) = head.numbered else {
+            return Err(Reason::UnknownCall);
         };
-        let call = self.tail(word, worker, count, line)?;
-        Ok((worker, call))
+        let call = self.tail(numbered, head.worker, count, stop, line)?;
+        Ok((head.worker, call, stop))
     }
 
-    /// Takes a call line, and tells whether its form is built.
-    #[tactic(auto, unfolding(crate::specs::Calls::call_line, crate::specs::Calls::is_built_call))]
-    pub fn call_line(&mut self, line: &Line<'_>) -> Result<bool, Fault>
+    #[tactic(auto, using(crate::proofs::Operands::planned_stop_is), unfolding(crate::specs::Calls::call_line))]
+    pub fn call_line(&mut self, line: &Line<'_>) -> Result<(), Fault>
         requires { IsReader self.old }
-        ensures reads { Reads (call_line (draft_of self.old) line.now) self.new result }
-        ensures built { IfOk result (λ built. built ≡ is_built_call line.now) }
+        ensures { Reads (call_line (draft_of self.old) line.now) self.new result }
     {
-        let (worker, call) = self.call_in(line)?;
-        self.plan(worker, call, planned_stop(line))?;
-        Ok(worker == 1 && !has_stop(line) && is_built(&call))
-    }
-}
-
-// Whether a call is of a form that is built.
-fn is_built(call: &Call) -> bool
-    ensures { result ≡ is_built call.now }
-{
-    match call {
-        Call::OpenFile {
-            lease,
-            durable,
-            overwrite,
-            ..
-        } => lease.is_none() && *durable == 0 && !*overwrite,
-        Call::Close { .. } => true,
-        _ => false,
+        let (worker, call, stop) = self.call_in(line)?;
+        self.plan(worker, call, stop.point())
     }
 }

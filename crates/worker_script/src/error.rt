@@ -1,6 +1,7 @@
 ghost use Rattle.std.specs.Prelude.{◌≡◌};
 ghost use Rattle.worker_script.specs.declared.error.Parse.TheVariants as errors;
 
+use crate::reason::Reason;
 use std::error::Error;
 use std::fmt;
 
@@ -8,17 +9,14 @@ use std::fmt;
 #[derive(Clone, Copy, Debug, PartialEq, Eq)]
 pub enum Parse {
     /// The first bad line, counted from 1, and the least reason for which it is bad.
-    Bad { line: u32, reason: u32 },
-    /// The text is a script, and this is its first line of a form that isn't built.
-    NotBuilt { line: u32 },
+    Bad { line: u32, reason: Reason },
     OutOfMemory,
 }
 
 impl fmt::Display for Parse {
     fn fmt<W: fmt::Write>(&self, f: &mut fmt::Formatter<W>) -> fmt::Result {
         match self {
-            Parse::Bad { line, reason } => write!(f, "line {line}: reason {reason}"),
-            Parse::NotBuilt { line } => write!(f, "line {line}: not built"),
+            Parse::Bad { line, reason } => write!(f, "line {line}: reason {}", reason.number()),
             Parse::OutOfMemory => f.write_str("out of memory"),
         }
     }

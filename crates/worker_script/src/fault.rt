@@ -1,6 +1,7 @@
 ghost use Rattle.std.specs.Prelude.{◌≡◌};
 ghost use Rattle.worker_script.specs.declared.fault.Fault.TheVariants.{Bad, NoMemory};
 
+use crate::reason::Reason;
 use sid_core::OutOfMemory;
 use std::alloc::AllocFailed;
 
@@ -8,14 +9,14 @@ use std::alloc::AllocFailed;
 #[derive(Clone, Copy, Debug, PartialEq, Eq)]
 pub(crate) enum Fault {
     /// The line is bad, for this reason.
-    Bad(u32),
+    Bad(Reason),
     NoMemory,
 }
 
-impl From<u32> for Fault {
+impl From<Reason> for Fault {
     ghost from_gives = { λ reason e. e ≡ Bad reason };
 
-    fn from(reason: u32) -> Fault {
+    fn from(reason: Reason) -> Fault {
         Fault::Bad(reason)
     }
 }

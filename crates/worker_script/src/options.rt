@@ -4,10 +4,9 @@ ghost use Rattle.worker_script.specs.Options.{with_durable, with_lease, with_opt
 
 use crate::asked::{Asked, Flags};
 use crate::line::Line;
-use crate::number::{number_u64, positive_u32};
+use crate::numeral::{number_u64, positive_u32};
 use crate::text::find;
-use crate::word::state_of;
-use sid_core::{LeaseAsk, Tables};
+use sid_core::{LeaseAsk, LeaseState, Tables};
 
 // The first bytes of a token.
 fn front(count: usize, token: &[u8]) -> &[u8]
@@ -42,7 +41,7 @@ fn with_lease(asked: Asked, lease: &[u8]) -> Option<Asked>
 {
     let colon = find(b':', lease);
     let key = number_u64(front(colon, lease))?;
-    let state = state_of(behind(colon + 1, lease))?;
+    let state = LeaseState::read(behind(colon + 1, lease))?;
     if asked.lease.is_some() {
         return None;
     }
@@ -99,8 +98,9 @@ pub(crate) fn asked_in(count: usize, line: &Line<'_>) -> Option<Asked>
     option_at(7, count, line, two)
 }
 
+/// These flags with one more, where the token is one. Each stands at most once, and `-S` not with `-L`.
 #[tactic(auto, unfolding(crate::specs::Options::with_flag))]
-fn with_flag(flags: Flags, token: &[u8]) -> Option<Flags>
+pub fn with_flag(flags: Flags, token: &[u8]) -> Option<Flags>
     ensures { result ≡ with_flag flags token.now }
 {
     if token == b"-S".as_slice() && !flags.shares && !flags.files {
@@ -150,7 +150,7 @@ pub(crate) fn flags_in(count: usize, line: &Line<'_>) -> Option<Flags>
 }
 
 /// Which tables these flags choose.
-pub(crate) fn tables_of(flags: Flags) -> Tables
+pub fn tables_of(flags: Flags) -> Tables
     ensures { result ≡ tables_of flags }
 {
     Tables {

@@ -1,5 +1,6 @@
 ghost use Rattle.std.specs.Prelude.{◌≡◌, ◌<◌, ◌++◌, IfOk, OnOk, length};
 ghost use Rattle.std.specs.Option.{option_to_list};
+ghost use Rattle.sid_core.specs.declared.limits.TheConstants.{MAX_PHASES};
 ghost use Rattle.worker_script.specs.Text.{token};
 ghost use Rattle.worker_script.specs.Values.{value};
 ghost use Rattle.worker_script.specs.Lines.{moment_of, new_phase, phase_fault, phase_line};
@@ -7,10 +8,11 @@ ghost use Rattle.worker_script.specs.Reader.{draft_of, IsReader, Finds, Reads};
 
 use crate::fault::Fault;
 use crate::line::Line;
-use crate::number::number;
+use crate::numeral::number;
 use crate::reader::Reader;
+use crate::reason::Reason;
 use crate::script::Phase;
-use sid_core::{Items, Moment, OutOfMemory};
+use sid_core::{Items, MAX_MOMENT, MAX_PHASES, Moment, OutOfMemory};
 use std::alloc::Global;
 use std::mem;
 
@@ -46,22 +48,22 @@ pub(crate) fn push_phase(phases: &mut Items<Phase>, phase: Option<Phase>) -> Res
 impl Reader {
     // What makes a phase line bad, or its moment.
     #[tactic(auto, unfolding(crate::specs::Lines::phase_fault))]
-    fn phase_fault(&self, line: &Line<'_>) -> Result<u64, u32>
+    fn phase_fault(&self, line: &Line<'_>) -> Result<u64, Reason>
         requires { IsReader self.now }
         ensures fault { Finds (phase_fault (draft_of self.now) line.now) (value (token 1 line.now)) result }
-        ensures room { IfOk result (λ _. length self.now.phases < 10000) }
+        ensures room { IfOk result (λ _. length self.now.phases < MAX_PHASES) }
     {
         if line.len() != 2 {
-            return Err(3);
+            return Err(Reason::WrongLength);
         }
-        let Some(moment) = number(0, 9_999_999_999, line.token(1)) else {
-            return Err(4);
+        let Some(moment) = number(0, MAX_MOMENT, line.token(1)) else {
+            return Err(Reason::WrongNumber);
         };
-        if 10_000 <= self.phases.len() + usize::from(self.current.is_some()) {
-            return Err(9);
+        if MAX_PHASES <= self.phases.len() + usize::from(self.current.is_some()) {
+            return Err(Reason::TooManyPhases);
         }
         if moment < moment_of(&self.current) {
-            return Err(15);
+            return Err(Reason::EarlierMoment);
         }
         Ok(moment)
     }

@@ -1,6 +1,8 @@
 ghost use Rattle.std.specs.Prelude.{◌≡◌, ◌<◌, ◌≤◌, ◌-◌, ◌||◌, OnOk, IsSome, Ok, length, slice_index_or, slice_set, is_some, if◌then◌else◌};
+ghost use Rattle.sid_core.specs.declared.limits.TheConstants.{MAX_CALLS};
 ghost use Rattle.worker_script.specs.Lines.{nothing, with_planned, planned_in, next_number};
-ghost use Rattle.worker_script.specs.Calls.{with_call, has_stopped, is_status_call};
+ghost use Rattle.worker_script.specs.Calls.{with_call, has_stopped};
+ghost use Rattle.worker_script.specs.Script.{is_status_call};
 ghost use Rattle.worker_script.specs.Reader.{draft_of, no_tally, IsReader, Reads};
 
 use crate::fault::Fault;
@@ -55,7 +57,7 @@ impl Reader {
     /// Adds the next call of a declared worker.
     pub fn plan(&mut self, worker: u32, call: Call, stop: Option<Point>) -> Result<(), Fault>
         requires reader { IsReader self.old }
-        requires room { self.old.calls < 20000 }
+        requires room { self.old.calls < MAX_CALLS }
         requires phase { IsSome self.old.current }
         requires some { 1 ≤ worker }
         requires declared { worker ≤ length self.old.workers }
@@ -86,7 +88,7 @@ impl Reader {
     // The number of a worker's next call.
     fn next_number(&self, worker: u32) -> u32
         requires reader { IsReader self.now }
-        requires room { self.now.calls < 20000 }
+        requires room { self.now.calls < MAX_CALLS }
         requires some { 1 ≤ worker }
         requires declared { worker ≤ length self.now.workers }
         ensures { result ≡ next_number (draft_of self.now) worker }

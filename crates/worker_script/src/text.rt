@@ -1,10 +1,9 @@
-ghost use Rattle.std.specs.Prelude.{◌≡◌, ◌<◌, ◌≤◌, ◌+◌, ℕ, List, ◌∷◌, length, IfOk};
-ghost use Rattle.std.specs.List.{list_all};
-ghost use Rattle.worker_script.specs.Text.{parts, tokens, token, is_plain, is_skipped};
+ghost use Rattle.std.specs.Prelude.{◌≡◌, ◌<◌, ◌≤◌, ◌∷◌, take, length, IfOk, MatchOption};
+ghost use Rattle.worker_script.specs.Text.{parts, tokens, token, is_skipped, before};
 ghost use Rattle.worker_script.specs.Values.{is_short};
-ghost use Rattle.worker_script.specs.Search.{before};
+ghost use Rattle.worker_script.specs.Search.{plain_before, IsFirstLine, HasBadFirst};
 
-use sid_core::{OutOfMemory, Text};
+use sid_core::{MAX_TEXT, OutOfMemory, Text};
 use std::alloc::Global;
 
 /// How many bytes stand before the first separator.
@@ -19,13 +18,15 @@ pub(crate) fn find(separator: u8, bytes: &[u8]) -> usize
     end
 }
 
-/// The first part of the bytes, and what comes behind its separator.
-pub(crate) fn first_part(separator: u8, bytes: &[u8]) -> (&[u8], &[u8])
-    requires { 0 < length bytes.now }
+// The part that ends here, and what comes behind its separator.
+fn part_to(separator: u8, end: usize, bytes: &[u8]) -> (&[u8], &[u8])
+    requires some { 0 < length bytes.now }
+    requires end { end ≡ before separator bytes.now }
+    requires within { end ≤ length bytes.now }
     ensures parts { parts separator bytes.now ≡ result.0.now ∷ parts separator result.1.now }
+    ensures front { result.0.now ≡ take end bytes.now }
     ensures less { length result.1.now < length bytes.now }
 {
-    let end = find(separator, bytes);
     let (part, rest) = bytes.split_at(end);
     if rest.is_empty() {
         return (part, rest);
@@ -34,49 +35,59 @@ pub(crate) fn first_part(separator: u8, bytes: &[u8]) -> (&[u8], &[u8])
     (part, after)
 }
 
-/// The first token of a line, or nothing.
-pub(crate) fn first_token(line: &[u8]) -> &[u8]
-    ensures { result.now ≡ token 0 (tokens line.now) }
+/// The first part of the bytes, and what comes behind its separator.
+pub(crate) fn first_part(separator: u8, bytes: &[u8]) -> (&[u8], &[u8])
+    requires { 0 < length bytes.now }
+    ensures parts { parts separator bytes.now ≡ result.0.now ∷ parts separator result.1.now }
+    ensures less { length result.1.now < length bytes.now }
 {
-    let mut rest = line;
-    while !rest.is_empty() {
-        let (part, after) = first_part(b' ', rest);
-        if !part.is_empty() {
-            return part;
-        }
-        rest = after;
-    }
-    rest
+    part_to(separator, find(separator, bytes), bytes)
 }
 
-/// No byte of the line is a control or stands outside ASCII.
-pub(crate) fn is_plain_line(line: &[u8]) -> bool
-    ensures { result ≡ list_all is_plain line.now }
+// How many bytes that a line may have stand in front.
+fn plain_front(bytes: &[u8]) -> usize
+    ensures found { result ≡ plain_before bytes.now }
+    ensures within { result ≤ length bytes.now }
 {
-    line.iter().all(|b| 0x20 <= *b && *b <= 0x7E)
+    let mut end = 0;
+    while end < bytes.len() && 0x20 <= bytes[end] && bytes[end] <= 0x7E {
+        end += 1;
+    }
+    end
 }
 
-/// Whether a line is skipped, by its first token.
-pub(crate) fn is_skipped(word: &[u8]) -> bool
-    ensures { result ≡ is_skipped word.now }
+/// The first line, if it has no byte that a line may not have, and what comes behind its end. One pass finds both.
+pub(crate) fn first_line(bytes: &[u8]) -> Option<(&[u8], &[u8])>
+    requires { 0 < length bytes.now }
+    ensures { MatchOption result (HasBadFirst bytes.now) (λ found. IsFirstLine bytes.now found.0.now found.1.now) }
 {
-    match word {
-        [] => true,
-        [first, ..] => *first == b'#',
+    let end = plain_front(bytes);
+    if end < bytes.len() && bytes[end] != b'\n' {
+        return None;
     }
+    Some(part_to(b'\n', end, bytes))
+}
+
+/// Whether a line is skipped. It goes no further than the first byte of the first token.
+pub(crate) fn skips(line: &[u8]) -> bool
+    ensures { result ≡ is_skipped (token 0 (tokens line.now)) }
+{
+    let mut start = 0;
+    while start < line.len() && line[start] == b' ' {
+        start += 1;
+    }
+    start == line.len() || line[start] == b'#'
 }
 
 /// Whether a text has at most 255 bytes.
 pub(crate) fn is_short(text: &[u8]) -> bool
     ensures { result ≡ is_short text.now }
 {
-    text.len() <= 255
+    text.len() <= MAX_TEXT
 }
 
 pub(crate) fn text(alloc: Global, bytes: &[u8]) -> Result<Text, OutOfMemory>
     ensures { IfOk result (λ text. text ≡ bytes.now) }
 {
-    let mut text = Text::new(alloc);
-    text.push(bytes)?;
-    Ok(text)
+    Ok(Text::from_vec(Vec::from_slice(alloc, bytes)?))
 }

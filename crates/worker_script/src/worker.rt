@@ -1,5 +1,6 @@
 ghost use Rattle.std.specs.Prelude.{◌≡◌, ◌<◌, ◌==◌, cond, Some, None, OnOk, is_none, true, length};
 ghost use Rattle.std.specs.List.{list_any};
+ghost use Rattle.sid_core.specs.declared.limits.TheConstants.{MAX_WORKERS};
 ghost use Rattle.worker_script.specs.Values.{is_short};
 ghost use Rattle.worker_script.specs.Lines.{are_worker_numbers, worker_fault, worker_line};
 ghost use Rattle.worker_script.specs.Reader.{draft_of, IsReader, Finds, Reads};
@@ -7,10 +8,11 @@ ghost use Rattle.worker_script.specs.Numbers.{worker_numbers};
 
 use crate::fault::Fault;
 use crate::line::Line;
-use crate::number::{number_u32, number_u64, positive_u32};
+use crate::numeral::{number_u32, number_u64, positive_u32};
 use crate::reader::{Reader, Tally};
+use crate::reason::Reason;
 use crate::text::{is_short, text};
-use sid_core::WorkerInfo;
+use sid_core::{MAX_WORKERS, WorkerInfo};
 
 /// The numbers of a line `worker W PID UID GUID MACHINE SHARE`.
 #[derive(Clone, Copy)]
@@ -41,32 +43,32 @@ fn has_pid(workers: &[WorkerInfo], pid: u32) -> bool
 impl Reader {
     // What makes a worker line bad, or its numbers.
     #[tactic(auto, unfolding(crate::specs::Lines::worker_fault))]
-    fn worker_fault(&self, line: &Line<'_>) -> Result<WorkerNumbers, u32>
+    fn worker_fault(&self, line: &Line<'_>) -> Result<WorkerNumbers, Reason>
         requires { IsReader self.now }
         ensures fault { Finds (worker_fault (draft_of self.now) line.now) (worker_numbers line.now) result }
-        ensures room { OnOk result (length self.now.workers < 64) }
+        ensures room { OnOk result (length self.now.workers < MAX_WORKERS) }
         ensures no_phase { OnOk result (is_none self.now.current ≡ true) }
     {
         if line.len() != 7 {
-            return Err(3);
+            return Err(Reason::WrongLength);
         }
         let Some(numbers) = worker_numbers(line) else {
-            return Err(4);
+            return Err(Reason::WrongNumber);
         };
         if self.current.is_some() {
-            return Err(5);
+            return Err(Reason::LateDeclaration);
         }
         if numbers.worker as usize != self.workers.len() + 1 {
-            return Err(6);
+            return Err(Reason::NotNext);
         }
-        if 64 <= self.workers.len() {
-            return Err(7);
+        if MAX_WORKERS <= self.workers.len() {
+            return Err(Reason::TooManyWorkers);
         }
         if has_pid(self.workers.as_slice(), numbers.pid) {
-            return Err(12);
+            return Err(Reason::KnownPid);
         }
         if !(is_short(line.token(5)) && is_short(line.token(6))) {
-            return Err(14);
+            return Err(Reason::LongText);
         }
         Ok(numbers)
     }
@@ -85,6 +87,7 @@ impl Reader {
             guid: numbers.guid,
             machine,
             share,
+            old: false,
         })?;
         self.tallies.push(Tally {
             made: 0,

@@ -1,5 +1,6 @@
 ghost use Rattle.std.specs.Prelude.{◌≡◌, ◌++◌, OnOk, codes};
-ghost use Rattle.serial_table.specs.Text.{letter_text, state_text, text_if};
+ghost use Rattle.sid_core.specs.Words.{state_text};
+ghost use Rattle.serial_table.specs.Text.{letter_text, text_if};
 
 use super::piece::{push_if, push_numbered, push_state};
 use sid_core::{LeaseState, Letter, OutOfMemory, Text};

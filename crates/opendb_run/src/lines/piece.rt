@@ -1,25 +1,17 @@
-ghost use Rattle.std.specs.Prelude.{◌≡◌, ◌+◌, ◌<◌, [], ◌∷◌, ◌++◌, OnOk};
+ghost use Rattle.std.specs.Prelude.{◌≡◌, ◌++◌, OnOk};
 ghost use Rattle.std.specs.Fmt.{decimal};
-ghost use Rattle.serial_table.specs.Text.{state_text, text_if};
+ghost use Rattle.sid_core.specs.Words.{state_text};
+ghost use Rattle.serial_table.specs.Text.{text_if};
 
+use itoa::Buffer;
 use sid_core::{LeaseState, OutOfMemory, Text};
 
 /// Adds a number in decimal. It takes no memory but the text's own.
 pub(crate) fn push_decimal(text: &mut Text, number: u64) -> Result<(), OutOfMemory>
     ensures { OnOk result (text.new ≡ text.old ++ decimal number) }
 {
-    if number < 10 {
-        return push_digit(text, number as u8);
-    }
-    push_decimal(text, number / 10)?;
-    push_digit(text, (number % 10) as u8)
-}
-
-fn push_digit(text: &mut Text, digit: u8) -> Result<(), OutOfMemory>
-    requires { digit < 10 }
-    ensures { OnOk result (text.new ≡ text.old ++ (48 + digit) ∷ []) }
-{
-    text.push(&[b'0' + digit])
+    let mut digits = Buffer::new();
+    text.push(digits.format(number).as_bytes())
 }
 
 /// Adds a number after what tells its meaning.
@@ -41,17 +33,5 @@ pub(crate) fn push_if(text: &mut Text, holds: bool, said: &[u8]) -> Result<(), O
 pub(crate) fn push_state(text: &mut Text, state: LeaseState) -> Result<(), OutOfMemory>
     ensures { OnOk result (text.new ≡ text.old ++ state_text state.0) }
 {
-    text.push(state_word(state).as_bytes())
-}
-
-fn state_word(state: LeaseState) -> &'static str
-    ensures { result.now ≡ state_text state.0 }
-{
-    match state.0 {
-        0 => "-",
-        1 => "R",
-        3 => "RH",
-        5 => "RW",
-        _ => "RWH",
-    }
+    text.push(state.text().as_bytes())
 }

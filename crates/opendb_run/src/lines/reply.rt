@@ -30,6 +30,7 @@ pub(crate) fn push_reply(text: &mut Text, reply: Reply) -> Result<(), OutOfMemor
         Reply::ObjectNameNotFound => text.push(b"OBJECT_NAME_NOT_FOUND"),
         Reply::SharingViolation => text.push(b"SHARING_VIOLATION"),
         Reply::FileLockConflict => text.push(b"FILE_LOCK_CONFLICT"),
+        Reply::DeletePending => text.push(b"DELETE_PENDING"),
         Reply::LockNotGranted => text.push(b"LOCK_NOT_GRANTED"),
         Reply::RangeNotLocked => text.push(b"RANGE_NOT_LOCKED"),
         Reply::RequestNotAccepted => text.push(b"REQUEST_NOT_ACCEPTED"),

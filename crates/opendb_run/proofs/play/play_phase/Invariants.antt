@@ -1,14 +1,15 @@
-use Rattle.std.proofs.Common.{◌≡◌, ◌++◌, drop}
-use Rattle.serial_table.specs.History.{standings, after_all}
-use Rattle.serial_table.specs.Text.{text_from}
-use Rattle.opendb_run.specs.Play.{entries_of}
+use Rattle.std.proofs.Common.{◌≡◌, ◌++◌, ◌+◌, ◌-◌, length}
+use Rattle.serial_table.specs.Settle.{settle}
+use Rattle.opendb_run.specs.Order.{in_turn, in_order}
+use Rattle.opendb_run.specs.Play.{after_calls}
+use Rattle.opendb_run.specs.Playing.{text_of_calls, TakesCalls}
 use Rattle.opendb_run.proofs.play.play_phase.Given as goal
 
--- the calls so far and those that are left are all of them
-abbrev pub invariant-loop-planned : goal.invariant-loop-planned
-invariant-loop-planned g l = record {
-  table : after_all l.setup l.table (entries_of l.setup l.table l.phase.moment (drop l.planned-index l.planned-items)) ≡ after_all l.setup l.fn.table (entries_of l.setup l.fn.table l.phase.moment l.phase.calls);
-  text : l.text ++ text_from l.setup l.table (entries_of l.setup l.table l.phase.moment (drop l.planned-index l.planned-items)) ≡ l.fn.text ++ text_from l.setup l.fn.table (entries_of l.setup l.fn.table l.phase.moment l.phase.calls);
-  items : l.planned-items ≡ l.phase.calls;
-  nobody_died : standings l.table ≡ standings l.fn.table;
+-- the workers so far and those that are left are all of them
+abbrev pub invariant-loop-place : goal.invariant-loop-place
+invariant-loop-place g l = record {
+  table : after_calls l.setup l.table l.phase.moment (in_turn (l.place + 1) (length l.setup.workers - l.place) l.phase.calls) ≡ after_calls l.setup l.fn.table l.phase.moment (in_order l.setup l.phase.calls);
+  text : l.text ++ text_of_calls l.setup l.table l.phase.moment (in_turn (l.place + 1) (length l.setup.workers - l.place) l.phase.calls) ≡ l.fn.text ++ text_of_calls l.setup l.fn.table l.phase.moment (in_order l.setup l.phase.calls);
+  taken : TakesCalls l.setup l.table l.phase.moment (in_turn (l.place + 1) (length l.setup.workers - l.place) l.phase.calls);
+  settled : settle l.table ≡ l.table;
 }

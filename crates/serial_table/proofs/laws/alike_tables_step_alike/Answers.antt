@@ -1,5 +1,5 @@
-use Rattle.serial_table.proofs.Alike.{same_reply, same_posts, same_view}
+use Rattle.serial_table.proofs.Alike.{alike_after, alike_legal}
 use Rattle.serial_table.proofs.laws.alike_tables_step_alike.Goals as goal
 
 pub returns : goal.returns
-returns c = record { reply = same_reply; posts = same_posts; table = same_view }
+returns c = record { shown = alike_after; legal = alike_legal }

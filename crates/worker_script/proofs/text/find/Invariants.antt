@@ -1,5 +1,5 @@
 use Rattle.std.proofs.Common.{length, drop, ◌-◌, ◌≡◌, ◌≤◌, ◌+◌}
-use Rattle.worker_script.specs.Search.{before}
+use Rattle.worker_script.specs.Text.{before}
 use Rattle.worker_script.proofs.text.find.Given as goal
 
 abbrev pub invariant-loop-end : goal.invariant-loop-end

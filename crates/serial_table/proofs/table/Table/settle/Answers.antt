@@ -1,6 +1,9 @@
-use Rattle.std.proofs.Common.{sym}
-use Rattle.serial_table.proofs.Settling.{settle_without_leases}
+use Rattle.std.proofs.Common.{◌∙◌, sym, ap}
+use Rattle.serial_table.specs.Settle.{settle}
+use Rattle.serial_table.proofs.Settled.{settle-settle}
 use Rattle.serial_table.proofs.table.Table.settle.Goals as goal
 
-pub returns-then-is_empty : goal.returns-then-is_empty
-returns-then-is_empty c = sym (settle_without_leases c.args.self.now (c.is_empty.ensures.0 c.if-is_empty.true))
+pub returns-clause-settled : goal.returns-clause-settled
+returns-clause-settled c =
+    let is = c.into_table.ensures ∙ c.settle.ensures.table in
+    ap settle is ∙ ap (λ t. settle (settle t)) c.take_lists-lists.ensures ∙ settle-settle c.args.self.now ∙ ap settle (sym c.take_lists-lists.ensures) ∙ sym is

@@ -1,6 +1,0 @@
-use Rattle.std.proofs.Common.{◌≡◌, ◌++◌}
-use Rattle.chain_map.proofs.leaf.Leaf.gathered.Given as goal
-
--- what was copied, and what is left
-abbrev pub invariant-loop-pair : goal.invariant-loop-pair
-invariant-loop-pair l = l.pairs.items ++ l.pair-iterator ≡ l.fn.self

@@ -1,0 +1,13 @@
+mod Lists
+mod Holding
+mod Showing
+mod Keeping
+mod Planning
+mod Committing
+mod Dying
+mod Ending
+mod Redoing
+mod Recovering
+mod Starting
+mod Lawful
+mod Quietly

@@ -1,0 +1,7 @@
+pub mod Shows
+pub mod Sound
+pub mod Plain
+pub mod Fresh
+pub mod Begun
+pub mod Dying
+pub mod Redone

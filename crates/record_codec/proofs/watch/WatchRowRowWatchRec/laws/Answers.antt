@@ -1,0 +1,6 @@
+use Rattle.std.proofs.Common.{refl}
+use Rattle.record_codec.proofs.Sets.{watch_set}
+use Rattle.record_codec.proofs.watch.WatchRowRowWatchRec.laws.Goals as goal
+
+pub returns : goal.returns
+returns c = record { sets = watch_set 0 0 0; sized = λ w. refl }

@@ -1,0 +1,17 @@
+use Rattle.std.proofs.Common.{sym, ap, ◌∙◌, filter}
+use Rattle.std.proofs.lemmas.Result.{IfOk-weaker}
+use Rattle.sid_core.specs.Ids.{same_sid}
+use Rattle.serial_table.specs.View.{is_hold_of}
+use Rattle.serial_table.specs.GlobalLock.{gunlock_by}
+use Rattle.serial_table.proofs.Heads.{head_found, none_found}
+use Rattle.serial_table.proofs.global_lock.gunlock_by.Goals as goal
+
+pub returns-in-Some : goal.returns-in-Some
+returns-in-Some c =
+    let found = head_found (λ hold. same_sid hold.owner c.args.caller.now.sid) (filter (is_hold_of c.args.key) c.args.table.now.holds) c.in-Some.field-0 (sym c.in-Some.ensures) in
+    IfOk-weaker c.drop_hold.result _ _ (λ _ h. h c.in-Some.field-0 found.0 ∙ ap (gunlock_by c.args.caller.now c.args.key) (sym found.1)) c.drop_hold.ensures
+
+pub returns-in-None : goal.returns-in-None
+returns-in-None c =
+    let none = none_found (λ hold. same_sid hold.owner c.args.caller.now.sid) (filter (is_hold_of c.args.key) c.args.table.now.holds) (sym c.in-None.ensures) in
+    c.only_reply.ensures ∙ ap (gunlock_by c.args.caller.now c.args.key) (sym none)

@@ -1,0 +1,11 @@
+use Rattle.std.proofs.Common.{◌≡◌, ◌+◌, ◌++◌, drop}
+use Rattle.serial_table.specs.View.{view}
+use Rattle.serial_table.specs.Tables.{range_rows, of_files}
+use Rattle.serial_table.proofs.show.ranges.push_rows.Given as goal
+
+-- what is told so far and what is left to be told
+abbrev pub invariant-loop-info : goal.invariant-loop-info
+invariant-loop-info l = record {
+  number : l.file ≡ l.info-index + 1;
+  rows : l.out.items ++ of_files range_rows (view l.table) l.file (drop l.info-index l.infos) ≡ l.fn.out.items ++ of_files range_rows (view l.table) 1 l.infos;
+}

@@ -1,0 +1,4 @@
+pub mod Counting
+pub mod Adding
+pub mod Rule
+pub mod Waiting

@@ -1,0 +1,5 @@
+pub mod Journal
+pub mod Shown
+pub mod Calls
+pub mod Ends
+pub mod Beside
