@@ -1,12 +1,12 @@
 #!/usr/bin/env bash
 # Instructions that a call on a chain takes, at chains of several lengths whose keys rose, fell or came in no order: keys
-# of 24 bytes, and as values share mode records of 90 bytes. Run by hand on the program that the gate built; the gate doesn't.
+# of 24 bytes, and as values share mode records of 92 bytes. Run by hand on the program that the gate built; the gate doesn't.
 set -eu
 cd "$(dirname "$0")/.."
 program=crates/bench/out/bench
 . bench/counting.sh
 
-works='find put_new put_old remove copy change add entries'
+works='find put_new put_old remove copy change patch add entries'
 echo "| pairs | keys |$(printf ' %s |' $works)"
 echo "|---|---|$(printf '%s' "$works" | sed 's/[a-z_]* */---|/g')"
 for pairs in ${*:-18 143 1250 10000}; do

@@ -1,9 +1,10 @@
+ghost use Rattle.std.specs.Prelude.{◌≤◌, IfOk, length};
 ghost use Rattle.record_codec.specs.ShareRec.{IsShareRec};
 
-use crate::records::record_bytes;
+use crate::records::{is_record, record_bytes};
 use anyhow::{Context, Result};
 use chain_map::Chain;
-use record_codec::{Packed, ShareRec};
+use record_codec::{Packed, ShareRec, Unpack};
 use std::alloc::Global;
 
 /// The order in which a chain's keys came.
@@ -53,6 +54,8 @@ pub enum ChainWork {
     Copy,
     /// Copy the chain, find a record, unpack it, pack it and put it into the copy, drop the chain, and settle the copy.
     Change,
+    /// The same, but judge the record in place, and put its bytes with another handle of its open.
+    Patch,
     /// Copy the chain, add a key to the copy, drop the chain, and settle the copy.
     Add,
     /// Go over all pairs.
@@ -68,6 +71,7 @@ impl ChainWork {
             "remove" => Some(ChainWork::Remove),
             "copy" => Some(ChainWork::Copy),
             "change" => Some(ChainWork::Change),
+            "patch" => Some(ChainWork::Patch),
             "add" => Some(ChainWork::Add),
             "entries" => Some(ChainWork::Entries),
             _ => None,
@@ -104,6 +108,7 @@ pub fn count(alloc: Global, work: ChainWork, order: Order, pairs: u32, times: u3
                 let _copy = chain.copy()?;
             }
             ChainWork::Change => chain = changed(alloc, chain, order.key(at))?,
+            ChainWork::Patch => chain = patched(alloc, chain, order.key(at))?,
             ChainWork::Add => chain = added(alloc, chain, order.key(next), packed.as_slice())?,
             ChainWork::Entries => done = done.wrapping_add(total(&chain)),
         }
@@ -123,6 +128,33 @@ fn changed(alloc: Global, chain: Chain, key: [u8; 24]) -> Result<Chain> {
     drop(chain);
     next.settle();
     Ok(next)
+}
+
+fn patched(alloc: Global, chain: Chain, key: [u8; 24]) -> Result<Chain> {
+    let mut next = chain.copy()?;
+    let bytes = patched_bytes(alloc, key, next.find(&key).context("no record")?)?;
+    next.put_packed(bytes, 24)?;
+    drop(chain);
+    next.settle();
+    Ok(next)
+}
+
+// The key and behind it the record, judged in place, with another handle of its open.
+fn patched_bytes(alloc: Global, key: [u8; 24], record: &[u8]) -> Result<Vec<u8>>
+    ensures { IfOk result (λ bytes. 24 ≤ length bytes.items) }
+{
+    if !is_record(record)? {
+        return Err(Unpack::Trailing.into());
+    }
+    let (front, others) = record.split_at_checked(49).context("no entry")?;
+    let (handle, rest) = others.split_first().context("no handle")?;
+    let room = record.len().checked_add(24).context("no room")?;
+    let mut bytes = Vec::with_capacity(alloc, room)?;
+    bytes.extend_from_slice(&key)?;
+    bytes.extend_from_slice(front)?;
+    bytes.push(handle.wrapping_add(1))?;
+    bytes.extend_from_slice(rest)?;
+    Ok(bytes)
 }
 
 fn put_record(alloc: Global, chain: &mut Chain, key: [u8; 24], share: &ShareRec) -> Result<()>

@@ -1,13 +1,14 @@
 -- A binary search by the order of keys ends at the key's place, or at the gap for it.
-use Rattle.std.proofs.Common.{◌≡◌, ℕ, zero, suc, ◌<◌, ◌≤◌, true, false, List, [], ◌∷◌, length, get_or, refl, ap, subst, Result, Ok, Err, IfOk, IfErr, arith, add-one}
+use Rattle.std.proofs.Common.{◌≡◌, ℕ, zero, suc, ◌+◌, ◌<◌, ◌≤◌, true, false, List, [], ◌∷◌, length, get_or, refl, ap, subst, arith, add-one}
 use Rattle.std.specs.declared.cmp.Ordering.TheVariants.{Less, Equal, Greater}
-use Rattle.std.specs.Ordering.{is_lt}
-use Rattle.std.specs.List.Sorted.{IsSearchInRange, IsBinarySearchResult, IsSortedBy}
+use Rattle.std.specs.declared.cmp.Ordering.{Ordering}
+use Rattle.std.specs.Ordering.{is_lt, ordering_index}
+use Rattle.std.specs.List.Sorted.{IsNonDecreasingBy, IsSortedBy}
 use Rattle.std.specs.FinMap.Entries.{below_all}
 use Rattle.std.proofs.lemmas.Bool.{and_parts, and_from}
 use Rattle.std.proofs.lemmas.List.Sorted.{searchable_from_sorted}
 use Rattle.chain_map.specs.Pairs.{Pairs, byte_order, IsRising}
-use Rattle.chain_map.specs.Place.{IsAt, IsGap}
+use Rattle.chain_map.specs.Place.{IsAt, IsGap, pair_at}
 use Rattle.chain_map.proofs.Order.{total, same_key, turned}
 use Rattle.chain_map.proofs.Place.{below_first, below_rest}
 
@@ -34,27 +35,49 @@ at_from key (pair ∷ pairs) (suc i) d rising in_range equal =
     (turned pair.0 key Less less, at_from key pairs i d (and_parts _ _ rising).1 (omega arith) equal)
 
 -- the key is below pairs whose keys are all greater
-below_from : (key : List ℕ) (pairs : Pairs) → ((i : ℕ) (d : List ℕ × List ℕ) → i < length pairs → byte_order (get_or pairs i d).0 key ≡ Greater) → below_all byte_order key pairs ≡ true
+below_from : (key : List ℕ) (pairs : Pairs) → ((i : ℕ) → i < length pairs → byte_order (pair_at pairs i).0 key ≡ Greater) → below_all byte_order key pairs ≡ true
 below_from key [] greater = refl
 below_from key (pair ∷ pairs) greater =
-    and_from _ _ (ap is_lt (turned pair.0 key Greater (greater 0 pair (omega arith)))) (below_from key pairs (λ i d in_range. greater (suc i) d (omega arith)))
+    and_from _ _ (ap is_lt (turned pair.0 key Greater (greater 0 (omega arith)))) (below_from key pairs (λ i in_range. greater (suc i) (omega arith)))
 
-gap_from : (key : List ℕ) (pairs : Pairs) (place : ℕ) → place ≤ length pairs →
-    ((i : ℕ) (d : List ℕ × List ℕ) → i < place → byte_order (get_or pairs i d).0 key ≡ Less) →
-    ((i : ℕ) (d : List ℕ × List ℕ) → place ≤ i → i < length pairs → byte_order (get_or pairs i d).0 key ≡ Greater) → IsGap key pairs place
-gap_from key pairs zero in_range less greater = below_from key pairs (λ i d here. greater i d (omega arith) here)
+-- the keys before this place are less than the sought one
+abbrev pub AreLess : List ℕ → Pairs → ℕ → Type 0
+AreLess key pairs place = (i : ℕ) → i < place → byte_order (pair_at pairs i).0 key ≡ Less
+
+-- those from this place on are greater
+abbrev pub AreGreater : List ℕ → Pairs → ℕ → Type 0
+AreGreater key pairs place = (i : ℕ) → place ≤ i → i < length pairs → byte_order (pair_at pairs i).0 key ≡ Greater
+
+pub gap_from : (key : List ℕ) (pairs : Pairs) (place : ℕ) → place ≤ length pairs → AreLess key pairs place → AreGreater key pairs place → IsGap key pairs place
+gap_from key pairs zero in_range less greater = below_from key pairs (λ i here. greater i (omega arith) here)
 gap_from key [] (suc place) in_range less greater = absurd (omega arith)
 gap_from key (pair ∷ pairs) (suc place) in_range less greater = (
-  turned pair.0 key Less (less 0 pair (omega arith)),
-  gap_from key pairs place (omega arith) (λ i d low. less (suc i) d (omega arith)) (λ i d high here. greater (suc i) d (omega arith) (omega arith)),
+  turned pair.0 key Less (less 0 (omega arith)),
+  gap_from key pairs place (omega arith) (λ i low. less (suc i) (omega arith)) (λ i high here. greater (suc i) (omega arith) (omega arith)),
 )
 
-pub searched : (key : List ℕ) (pairs : Pairs) → IsRising pairs → (r : Result ℕ ℕ) → IsSearchInRange r (length pairs) →
-    IsBinarySearchResult (λ pair. byte_order pair.0 key) pairs r → record { found : IfOk r (IsAt key pairs); absent : IfErr r (IsGap key pairs) }
-searched key pairs rising (Ok place) in_range equal = record { found = at_from key pairs place ([], []) rising in_range (equal ([], [])); absent = tt }
-searched key pairs rising (Err place) in_range parted = record {
-  found = tt;
-  absent =
-      let sides = parted (searchable_from_sorted total (λ (pair : List ℕ × List ℕ). pair.0) pairs key (sorted_by_key pairs rising)) in
-      gap_from key pairs place in_range (λ i d low. sides.0 i d (omega arith) low) (λ i d high here. sides.1 i d high here);
-}
+-- the keys don't fall, as they stand to this one
+rises : (key : List ℕ) (pairs : Pairs) → IsRising pairs → IsNonDecreasingBy (λ pair. ordering_index (byte_order pair.0 key)) pairs
+rises key pairs rising = searchable_from_sorted total (λ (pair : List ℕ × List ℕ). pair.0) pairs key (sorted_by_key pairs rising)
+
+least_index : (o : Ordering) → ordering_index o ≤ 0 → o ≡ Less
+least_index Less l = refl
+least_index Equal l = absurd (omega arith)
+least_index Greater l = absurd (omega arith)
+
+most_index : (o : Ordering) → 2 ≤ ordering_index o → o ≡ Greater
+most_index Less l = absurd (omega arith)
+most_index Equal l = absurd (omega arith)
+most_index Greater l = refl
+
+-- where a key is less than the sought one, those before it are
+pub less_up_to : (key : List ℕ) (pairs : Pairs) (at : ℕ) → IsRising pairs → at < length pairs → byte_order (pair_at pairs at).0 key ≡ Less → AreLess key pairs (at + 1)
+less_up_to key pairs at rising in_range less i low =
+    let rise : ordering_index (byte_order (pair_at pairs i).0 key) ≤ ordering_index (byte_order (pair_at pairs at).0 key) = rises key pairs rising i at ([], []) (omega arith) in_range in
+    least_index _ (subst (λ o. ordering_index (byte_order (pair_at pairs i).0 key) ≤ ordering_index o) less rise)
+
+-- where a key is greater, those behind it are
+pub greater_from : (key : List ℕ) (pairs : Pairs) (at : ℕ) → IsRising pairs → byte_order (pair_at pairs at).0 key ≡ Greater → AreGreater key pairs at
+greater_from key pairs at rising greater i high here =
+    let rise : ordering_index (byte_order (pair_at pairs at).0 key) ≤ ordering_index (byte_order (pair_at pairs i).0 key) = rises key pairs rising at i ([], []) high here in
+    most_index _ (subst (λ o. ordering_index o ≤ ordering_index (byte_order (pair_at pairs i).0 key)) greater rise)

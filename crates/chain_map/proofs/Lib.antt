@@ -5,5 +5,5 @@ pub mod Found
 pub mod Homes
 pub mod Kept
 pub mod Each
-pub mod Over
+pub mod Laid
 pub mod Merged

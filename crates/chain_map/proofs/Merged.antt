@@ -10,7 +10,7 @@ use Rattle.chain_map.specs.Laid.{laid, ahead, IsAhead}
 use Rattle.chain_map.proofs.Order.{same_key, turned}
 use Rattle.chain_map.proofs.Place.{below_first, below_rest}
 use Rattle.chain_map.proofs.Homes.{put-front, below_less}
-use Rattle.chain_map.proofs.Over.{laid_none}
+use Rattle.chain_map.proofs.Laid.{laid_none}
 
 below_put : (x key value : List ℕ) (pairs : Pairs) → byte_order x key ≡ Less → below_all byte_order x pairs ≡ true → below_all byte_order x (put key value pairs) ≡ true
 below_put x key value [] less below = and_from _ _ (ap is_lt less) refl

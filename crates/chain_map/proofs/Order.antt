@@ -28,7 +28,7 @@ less_from_test Less e = refl
 less_from_test Equal e = absurd (both_ways _ refl e)
 less_from_test Greater e = absurd (both_ways _ refl e)
 
-equal_from_test : (o : Ordering) → is_eq o ≡ true → o ≡ Equal
+pub equal_from_test : (o : Ordering) → is_eq o ≡ true → o ≡ Equal
 equal_from_test Less e = absurd (both_ways _ refl e)
 equal_from_test Equal e = refl
 equal_from_test Greater e = absurd (both_ways _ refl e)

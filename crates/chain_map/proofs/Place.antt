@@ -1,12 +1,14 @@
 -- What stands at a key's place, and what an edit there makes.
-use Rattle.std.proofs.Common.{◌≡◌, ℕ, zero, suc, ◌<◌, ◌≤◌, true, List, [], ◌∷◌, length, get_or, set, refl, sym, ap, subst, ◌∙◌, Some, None, arith}
-use Rattle.std.specs.declared.cmp.Ordering.TheVariants.{Less}
+use Rattle.std.proofs.Common.{◌≡◌, ℕ, zero, suc, ◌<◌, ◌≤◌, true, false, List, [], ◌∷◌, length, get_or, set, refl, sym, ap, subst, ◌∙◌, Some, None, arith}
+use Rattle.std.specs.declared.cmp.Ordering.{Ordering}
+use Rattle.std.specs.declared.cmp.Ordering.TheVariants.{Less, Equal, Greater}
+use Rattle.std.specs.Ordering.{is_eq}
 use Rattle.std.specs.List.{insert, remove}
 use Rattle.std.specs.FinMap.Entries.{below_all}
-use Rattle.std.proofs.lemmas.Bool.{and_parts}
+use Rattle.std.proofs.lemmas.Bool.{and_parts, both_ways}
 use Rattle.chain_map.specs.Pairs.{Pairs, byte_order, IsRising, find, put, without}
 use Rattle.chain_map.specs.Place.{IsAt, IsGap, pair_at}
-use Rattle.chain_map.proofs.Order.{same_key, less_from_test}
+use Rattle.chain_map.proofs.Order.{same_key, turned, less_from_test, equal_from_test}
 
 -- a key is less than the first of those that it is below
 pub below_first : (key : List ℕ) (pair : List ℕ × List ℕ) (pairs : Pairs) → below_all byte_order key (pair ∷ pairs) ≡ true → byte_order key pair.0 ≡ Less
@@ -79,3 +81,13 @@ pair_at_from xs ys at pair same in_range is = is ∙ ap (λ pairs. get_or pairs 
     default [] at pair in_range = absurd (omega arith)
     default (y ∷ ys) zero pair in_range = refl
     default (y ∷ ys) (suc at) pair in_range = default ys at pair (omega arith)
+
+-- ---- one pair alone, as a comparison of its key answers
+
+pub at_one : (key : List ℕ) (pair : List ℕ × List ℕ) (o : Ordering) → o ≡ byte_order pair.0 key → is_eq o ≡ true → IsAt key (pair ∷ []) 0
+at_one key pair o e t = turned pair.0 key Equal (sym e ∙ equal_from_test o t)
+
+pub not_one : (key : List ℕ) (pair : List ℕ × List ℕ) (o : Ordering) → o ≡ byte_order pair.0 key → is_eq o ≡ false → (find key (pair ∷ []) ≡ None) × (without key (pair ∷ []) ≡ pair ∷ [])
+not_one key pair Less e t = let other : byte_order key pair.0 ≡ Greater = turned pair.0 key Less (sym e) in (rw other refl, rw other refl)
+not_one key pair Equal e t = absurd (both_ways _ t refl)
+not_one key pair Greater e t = let other : byte_order key pair.0 ≡ Less = turned pair.0 key Greater (sym e) in (rw other refl, rw other refl)

@@ -4,9 +4,9 @@ ghost use Rattle.chain_map.specs.Leaves.{joined, IsFilled, IsHome, IsSpot, splic
 ghost use Rattle.chain_map.specs.Marks.{kept_each};
 ghost use Rattle.chain_map.specs.Laid.{laid};
 
-use crate::leaf::{Leaf, MOST};
+use crate::leaf::Leaf;
 use crate::marks::Marks;
-use crate::sorted::Sorted;
+use crate::over::Over;
 use sid_core::OutOfMemory;
 use std::alloc::{AllocError, Global};
 use std::marker::Model;
@@ -47,7 +47,7 @@ impl Base {
     }
 
     /// Moves the pair at this place of a list to its leaf, as `Leaf::take_in` does.
-    pub(crate) fn take_in(&mut self, over: &mut Sorted, at: usize) -> bool
+    pub(crate) fn take_in(&mut self, over: &mut Over, at: usize) -> bool
         requires { at < length over.old }
         ensures same { laid over.new (joined self.new) ≡ laid over.old (joined self.old) }
         ensures fewer { length over.old ≤ length over.new + 1 }
@@ -61,7 +61,7 @@ impl Base {
     }
 
     /// Moves each pair of a list to its leaf that can go there.
-    pub(crate) fn take_in_all(&mut self, over: &mut Sorted)
+    pub(crate) fn take_in_all(&mut self, over: &mut Over)
         ensures same { laid over.new (joined self.new) ≡ laid over.old (joined self.old) }
         ensures len { length self.new ≡ length self.old }
     {
@@ -73,7 +73,7 @@ impl Base {
     }
 
     /// Moves the last pair of a list to its leaf, or to a new one.
-    pub(crate) fn merge_last(&mut self, over: &mut Sorted) -> Result<(), OutOfMemory>
+    pub(crate) fn merge_last(&mut self, over: &mut Over) -> Result<(), OutOfMemory>
         ensures same { laid over.new (joined self.new) ≡ laid over.old (joined self.old) }
         ensures len { length self.new ≤ length self.old + 1 }
     {
@@ -82,10 +82,7 @@ impl Base {
             return Ok(());
         };
         if self.leaves.is_empty() {
-            if last < MOST {
-                self.start(alloc, over)?;
-            }
-            return Ok(());
+            return self.start(alloc, over, last);
         }
         if self.take_in(over, last) {
             return Ok(());
@@ -94,7 +91,7 @@ impl Base {
     }
 
     // The same where the leaf has no room yet.
-    fn merge_at(&mut self, alloc: Global, over: &mut Sorted) -> Result<(), OutOfMemory>
+    fn merge_at(&mut self, alloc: Global, over: &mut Over) -> Result<(), OutOfMemory>
         requires { 0 < length self.old }
         ensures same { laid over.new (joined self.new) ≡ laid over.old (joined self.old) }
         ensures len { length self.new ≤ length self.old + 1 }
@@ -169,22 +166,25 @@ impl Base {
         Ok(())
     }
 
-    // Makes all pairs of a list the first leaf.
-    fn start(&mut self, alloc: Global, pairs: &mut Sorted) -> Result<(), OutOfMemory>
+    // Makes the pair at this place of a list the first leaf.
+    fn start(&mut self, alloc: Global, over: &mut Over, at: usize) -> Result<(), OutOfMemory>
         requires none { self.old ≡ [] }
-        requires some { 0 < length pairs.old }
-        requires few { length pairs.old ≤ 64 }
-        ensures same { laid pairs.new (joined self.new) ≡ laid pairs.old (joined self.old) }
+        requires at { at < length over.old }
+        ensures same { laid over.new (joined self.new) ≡ laid over.old (joined self.old) }
         ensures len { length self.new ≤ 1 }
     {
+        let _rising = over.as_slice();
+        let mut leaf = Leaf::with_room(alloc)?;
         self.leaves.reserve_exact(1)?;
-        let leaf = Leaf::of_all(alloc, pairs)?;
-        self.leaves.push_reserved(leaf);
+        if leaf.take_in(over, at) {
+            self.leaves.push_reserved(leaf);
+        }
         Ok(())
     }
 }
 
 /// The leaf where the key is, if it is anywhere.
+#[inline(always)]
 fn home(leaves: &[Leaf], key: &[u8]) -> usize
     requires some { 0 < length leaves.now }
     requires rising { IsRising (joined leaves.now) }
@@ -195,6 +195,18 @@ fn home(leaves: &[Leaf], key: &[u8]) -> usize
     if leaves.len() == 1 {
         return 0;
     }
+    home_of_several(leaves, key)
+}
+
+// The same, in a function of its own, so that the above is short.
+#[inline(never)]
+fn home_of_several(leaves: &[Leaf], key: &[u8]) -> usize
+    requires some { 0 < length leaves.now }
+    requires rising { IsRising (joined leaves.now) }
+    requires filled { IsFilled leaves.now }
+    ensures home { IsHome key.now leaves.now result }
+    ensures within { result < length leaves.now }
+{
     leaves
         .partition_point(|leaf| leaf.starts_by(key))
         .saturating_sub(1)

@@ -9,8 +9,8 @@ use crate::base::{Base, spot};
 use crate::entries::ChainEntries;
 use crate::leaf::{LATEST, Leaf};
 use crate::marks::{Marks, is_gone, with_gone};
+use crate::over::Over;
 use crate::pair::Pair;
-use crate::sorted::Sorted;
 use sid_core::OutOfMemory;
 use std::alloc::Global;
 use std::marker::Model;
@@ -31,7 +31,7 @@ pub struct Held {
 #[derive(Drop)]
 pub struct Chain {
     base: Option<Arc<Base, Global>>,
-    over: Sorted,
+    over: Over,
     marks: Marks,
     /// Whether pairs lay over the leaves already when this chain was copied.
     is_due: bool,
@@ -56,7 +56,7 @@ impl Chain {
     {
         Chain {
             base: None,
-            over: Sorted::new(alloc),
+            over: Over::new(alloc),
             marks: Marks::new(alloc),
             is_due: false,
         }
@@ -113,14 +113,34 @@ impl Chain {
     }
 
     /// Copies a pointer and the marks, a word for each leaf, and what is put over the leaves.
+    #[inline(always)]
     pub fn copy(&self) -> Result<Chain, OutOfMemory>
+        ensures { IfOk result (λ chain. chain ≡ self.now) }
+    {
+        if self.over.len() != 0 {
+            return self.copy_over();
+        }
+        let Some(marks) = self.marks.copy_word() else {
+            return copy_marks(&self.base, &self.marks, self.over.allocator());
+        };
+        Ok(Chain {
+            base: self.base.clone()?,
+            over: Over::new(self.over.allocator()),
+            marks,
+            is_due: false,
+        })
+    }
+
+    // The same where pairs are put over the leaves.
+    #[inline(never)]
+    fn copy_over(&self) -> Result<Chain, OutOfMemory>
         ensures { IfOk result (λ chain. chain ≡ self.now) }
     {
         Ok(Chain {
             base: self.base.clone()?,
             over: self.over.copy()?,
             marks: self.marks.copy()?,
-            is_due: self.over.len() != 0,
+            is_due: true,
         })
     }
 
@@ -154,6 +174,25 @@ impl Chain {
     {
         ChainEntries::new(self.over.as_slice(), leaves_of(&self.base), &self.marks)
     }
+}
+
+// A copy where there are several leaves, and nothing is put over them.
+#[inline(never)]
+fn copy_marks(
+    base: &Option<Arc<Base, Global>>,
+    marks: &Marks,
+    alloc: Global,
+) -> Result<Chain, OutOfMemory>
+    requires { length (leaves_of base.now) ≤ length marks.now }
+    ensures { IfOk result (λ chain. chain ≡ shown (leaves_of base.now) marks.now []) }
+{
+    let marks = marks.copy()?;
+    Ok(Chain {
+        base: base.clone()?,
+        over: Over::new(alloc),
+        marks,
+        is_due: false,
+    })
 }
 
 fn leaves_of(base: &Option<Arc<Base, Global>>) -> &[Leaf]
@@ -203,7 +242,7 @@ fn take_out(leaves: &[Leaf], marks: &mut Marks, key: &[u8]) -> bool
     true
 }
 
-fn settle(base: &mut Option<Arc<Base, Global>>, over: &mut Sorted, marks: &mut Marks)
+fn settle(base: &mut Option<Arc<Base, Global>>, over: &mut Over, marks: &mut Marks)
     requires { length (leaves_of base.old) ≤ length marks.old }
     ensures same { shown (leaves_of base.new) marks.new over.new ≡ shown (leaves_of base.old) marks.old over.old }
     ensures fits { length (leaves_of base.new) ≤ length marks.new }
@@ -216,7 +255,7 @@ fn settle(base: &mut Option<Arc<Base, Global>>, over: &mut Sorted, marks: &mut M
 }
 
 // The same where no copy has the leaves.
-fn settle_own(base: &mut Base, over: &mut Sorted, marks: &mut Marks)
+fn settle_own(base: &mut Base, over: &mut Over, marks: &mut Marks)
     requires { length base.old ≤ length marks.old }
     ensures same { shown base.new marks.new over.new ≡ shown base.old marks.old over.old }
     ensures fits { length base.new ≤ length marks.new }
@@ -226,13 +265,14 @@ fn settle_own(base: &mut Base, over: &mut Sorted, marks: &mut Marks)
         return;
     }
     base.sweep(marks);
+    marks.review();
     if marks.is_clean() {
         base.take_in_all(over);
     }
 }
 
 // Finds a place for the first pair that is put over the leaves, if it can.
-fn place(base: &mut Option<Arc<Base, Global>>, over: &mut Sorted, marks: &mut Marks)
+fn place(base: &mut Option<Arc<Base, Global>>, over: &mut Over, marks: &mut Marks)
     requires { length (leaves_of base.old) ≤ length marks.old }
     ensures same { shown (leaves_of base.new) marks.new over.new ≡ shown (leaves_of base.old) marks.old over.old }
     ensures fits { length (leaves_of base.new) ≤ length marks.new }
@@ -258,7 +298,7 @@ fn is_shared(base: &Option<Arc<Base, Global>>) -> bool {
 // Merges what is put over the leaves where that is due, or has become much.
 fn relieve(
     base: &mut Option<Arc<Base, Global>>,
-    over: &mut Sorted,
+    over: &mut Over,
     marks: &mut Marks,
     is_due: bool,
 ) -> Result<(), OutOfMemory>
@@ -275,7 +315,7 @@ fn relieve(
 // Writes what is put over the leaves into them, into copies of those that others share.
 fn merge(
     base: &mut Option<Arc<Base, Global>>,
-    over: &mut Sorted,
+    over: &mut Over,
     marks: &mut Marks,
 ) -> Result<(), OutOfMemory>
     requires { length (leaves_of base.old) ≤ length marks.old }
@@ -331,7 +371,7 @@ fn fresh(
 }
 
 // Writes the last pair that is put over the leaves into them.
-fn merge_last(base: &mut Base, over: &mut Sorted, marks: &mut Marks) -> Result<(), OutOfMemory>
+fn merge_last(base: &mut Base, over: &mut Over, marks: &mut Marks) -> Result<(), OutOfMemory>
     requires { length base.old ≤ length marks.old }
     ensures same { shown base.new marks.new over.new ≡ shown base.old marks.old over.old }
     ensures fits { length base.new ≤ length marks.new }

@@ -8,12 +8,12 @@ ghost use Rattle.chain_map.specs.Marks.{kept};
 ghost use Rattle.chain_map.specs.Place.{IsAt, IsGap, pair_at};
 
 use crate::marks::is_gone;
+use crate::over::Over;
 use crate::pair::Pair;
-use crate::sorted::Sorted;
+use crate::sorted::{ROOM, Sorted};
 use sid_core::OutOfMemory;
 use std::alloc::{AllocError, Global};
 use std::marker::Model;
-use std::mem;
 use std::sync::Arc;
 
 /// The most pairs of a leaf: a mark has a bit for each.
@@ -50,22 +50,11 @@ impl Leaf {
         })
     }
 
-    /// A leaf of all pairs of a list. Leaves them there where there is no memory.
-    pub(crate) fn of_all(alloc: Global, pairs: &mut Sorted) -> Result<Leaf, OutOfMemory>
-        requires { length pairs.old ≤ 64 }
-        ensures rising { IsRising pairs.old }
-        ensures leaf { IfOk result (λ leaf. leaf ≡ pairs.old) }
-        ensures ok { OnOk result (pairs.new ≡ []) }
-        ensures err { OnErr result (pairs.new ≡ pairs.old) }
+    /// A leaf without pairs, with room for some.
+    pub(crate) fn with_room(alloc: Global) -> Result<Leaf, OutOfMemory>
+        ensures { IfOk result (λ leaf. leaf ≡ []) }
     {
-        let _rising = pairs.as_slice();
-        match Arc::new(alloc, mem::replace(pairs, Sorted::new(alloc))) {
-            Ok(pairs) => Ok(Leaf { pairs }),
-            Err(failed) => {
-                *pairs = failed.value;
-                Err(OutOfMemory)
-            }
-        }
+        Leaf::new(alloc, Sorted::from_vec(Vec::with_capacity(alloc, ROOM)?))
     }
 
     pub(crate) fn as_slice(&self) -> &[Pair]
@@ -97,7 +86,7 @@ impl Leaf {
 
     /// Moves the pair at this place of a list here, where no other chain has the leaf and there is room. Takes no memory.
     /// Says whether it did.
-    pub(crate) fn take_in(&mut self, other: &mut Sorted, at: usize) -> bool
+    pub(crate) fn take_in(&mut self, other: &mut Over, at: usize) -> bool
         requires { at < length other.old }
         ensures moved { IsTrue result → self.new ≡ put (pair_at other.old at).0 (pair_at other.old at).1 self.old }
         ensures taken { IsTrue result → other.new ≡ remove other.old at }

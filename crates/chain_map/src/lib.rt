@@ -9,6 +9,7 @@ mod entries;
 mod laws;
 mod leaf;
 mod marks;
+mod over;
 mod pair;
 mod sorted;
 

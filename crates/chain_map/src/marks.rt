@@ -1,4 +1,4 @@
-ghost use Rattle.std.specs.Prelude.{◌≡◌, ◌<◌, ◌+◌, ◌^◌, [], ◌∷◌, ◌++◌, IfOk, OnOk, OnErr, length, slice_index_or, ◌≤◌, IsTrue, slice_set};
+ghost use Rattle.std.specs.Prelude.{◌≡◌, ◌<◌, ◌+◌, ◌^◌, [], ◌∷◌, ◌++◌, IfOk, IfSome, OnOk, OnErr, length, slice_index_or, ◌≤◌, IsTrue, slice_set};
 ghost use Rattle.std.specs.Int.RustNames.{bit_or};
 ghost use Rattle.chain_map.specs.Marks.{is_gone, no_marks, marks_without};
 
@@ -11,14 +11,19 @@ use std::marker::Model;
 pub(crate) struct Marks {
     first: u64,
     rest: Vec<u64>,
+    // whether a bit may be set
+    any: bool,
 }
 
 impl Model for Marks {
-    ghost use Rattle.std.specs.Prelude.{ℕ, List, ◌∷◌};
+    ghost use Rattle.std.specs.Prelude.{ℕ, List, ◌∷◌, IsTrue, not};
+    ghost use Rattle.chain_map.specs.Marks.{no_marks};
 
     ghost Value = { List ℕ };
 
     ghost view = { λ m. m.first ∷ m.rest.items };
+
+    ghost invariant = { λ m. IsTrue (not m.any) → IsTrue (no_marks (m.first ∷ m.rest.items)) };
 }
 
 impl Marks {
@@ -29,6 +34,7 @@ impl Marks {
         Marks {
             first: 0,
             rest: Vec::new(alloc),
+            any: false,
         }
     }
 
@@ -40,7 +46,11 @@ impl Marks {
         let more = leaves.saturating_sub(1);
         let mut rest = Vec::with_capacity(alloc, more)?;
         rest.resize(more, 0)?;
-        Ok(Marks { first: 0, rest })
+        Ok(Marks {
+            first: 0,
+            rest,
+            any: false,
+        })
     }
 
     /// The first word, and the others.
@@ -64,6 +74,7 @@ impl Marks {
         requires { leaf < length self.old }
         ensures { self.new ≡ slice_set self.old leaf mark }
     {
+        self.any = true;
         match leaf.checked_sub(1) {
             Some(at) => self.rest[at] = mark,
             None => self.first = mark,
@@ -99,6 +110,7 @@ impl Marks {
         requires { leaf < length self.old }
         ensures { self.new ≡ marks_without self.old leaf }
     {
+        self.any = true;
         match leaf.checked_sub(1) {
             Some(at) => {
                 self.rest.remove(at);
@@ -113,11 +125,32 @@ impl Marks {
         }
     }
 
-    /// Whether no bit is set.
+    /// Whether no bit is set. Where bits were, it is known from the next `review` on.
     pub(crate) fn is_clean(&self) -> bool
-        ensures { result ≡ no_marks self.now }
+        ensures { IsTrue result → IsTrue (no_marks self.now) }
     {
-        self.first == 0 && are_clean(self.rest.as_slice())
+        !self.any
+    }
+
+    /// Sees whether bits are set.
+    pub(crate) fn review(&mut self)
+        ensures { self.new ≡ self.old }
+    {
+        self.any = self.first != 0 || !are_clean(self.rest.as_slice());
+    }
+
+    /// The same where there is only one word. Takes no memory.
+    pub(crate) fn copy_word(&self) -> Option<Marks>
+        ensures { IfSome result (λ copy. copy ≡ self.now) }
+    {
+        if self.rest.len() != 0 {
+            return None;
+        }
+        Some(Marks {
+            first: self.first,
+            rest: Vec::new(*self.rest.allocator()),
+            any: self.any,
+        })
     }
 
     pub(crate) fn copy(&self) -> Result<Marks, OutOfMemory>
@@ -126,6 +159,7 @@ impl Marks {
         Ok(Marks {
             first: self.first,
             rest: Vec::from_slice(*self.rest.allocator(), self.rest.as_slice())?,
+            any: self.any,
         })
     }
 }

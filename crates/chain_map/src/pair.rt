@@ -1,5 +1,6 @@
-ghost use Rattle.std.specs.Prelude.{◌≡◌, ◌≤◌, IfOk, length, take, drop};
-ghost use Rattle.chain_map.specs.Pairs.{byte_order};
+ghost use Rattle.std.specs.Prelude.{◌≡◌, ◌≤◌, [], ◌∷◌, IfOk, length, take, drop};
+ghost use Rattle.std.specs.Option.{option_copied};
+ghost use Rattle.chain_map.specs.Pairs.{byte_order, find};
 
 use crate::compare::order;
 use sid_core::OutOfMemory;
@@ -45,6 +46,17 @@ impl Pair {
         ensures { result ≡ byte_order self.now.0 key.now }
     {
         order(self.key(), key)
+    }
+
+    /// The value, if the key is this one.
+    pub(crate) fn value_under(&self, key: &[u8]) -> Option<&[u8]>
+        ensures { option_copied result ≡ find key.now (self.now ∷ []) }
+    {
+        if self.cmp_key(key).is_eq() {
+            Some(self.value())
+        } else {
+            None
+        }
     }
 
     pub(crate) fn value(&self) -> &[u8]

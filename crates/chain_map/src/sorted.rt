@@ -6,13 +6,15 @@ ghost use Rattle.chain_map.specs.Place.{IsAt, IsGap, pair_at};
 ghost use Rattle.chain_map.specs.Marks.{kept};
 
 use crate::marks::is_gone;
+use crate::over::Over;
 use crate::pair::Pair;
 use sid_core::OutOfMemory;
 use std::alloc::Global;
+use std::cmp::Ordering;
 use std::marker::Model;
 
 /// The room that a list of pairs gets beyond its pairs where it is made anew.
-const ROOM: usize = 8;
+pub(crate) const ROOM: usize = 8;
 
 /// Pairs in the order of their keys.
 #[derive(Drop)]
@@ -77,7 +79,7 @@ impl Sorted {
         ensures found { IfOk result (IsAt key.now self.now) }
         ensures absent { IfErr result (IsGap key.now self.now) }
     {
-        self.pairs.binary_search_by(|pair| pair.cmp_key(key))
+        search(self.pairs.as_slice(), key)
     }
 
     pub(crate) fn find(&self, key: &[u8]) -> Option<&[u8]>
@@ -113,9 +115,18 @@ impl Sorted {
         }
     }
 
+    /// Takes the pair at this place out.
+    pub(crate) fn take(&mut self, at: usize) -> Pair
+        requires { at < length self.old }
+        ensures pair { result ≡ pair_at self.old at }
+        ensures rest { self.new ≡ remove self.old at }
+    {
+        self.pairs.remove(at)
+    }
+
     /// Moves the pair at this place of another list here, where that takes no memory and makes this one no longer than
     /// `most`. Says whether it did.
-    pub(crate) fn take_in(&mut self, most: usize, other: &mut Sorted, at: usize) -> bool
+    pub(crate) fn take_in(&mut self, most: usize, other: &mut Over, at: usize) -> bool
         requires { at < length other.old }
         ensures moved { IsTrue result → self.new ≡ put (pair_at other.old at).0 (pair_at other.old at).1 self.old }
         ensures taken { IsTrue result → other.new ≡ remove other.old at }
@@ -123,15 +134,15 @@ impl Sorted {
         ensures kept { IsTrue (not result) → other.new ≡ other.old }
         ensures few { length self.old ≤ most → length self.new ≤ most }
     {
-        match self.search(other.pairs[at].key()) {
+        match self.search(other.as_slice()[at].key()) {
             Ok(place) => {
-                self.pairs[place] = other.pairs.remove(at);
+                self.pairs[place] = other.take(at);
                 true
             }
             Err(place) => {
                 let len = self.pairs.len();
                 if len < most && len < self.pairs.capacity() {
-                    let pair = other.pairs.remove(at);
+                    let pair = other.take(at);
                     self.pairs.insert(place, pair).is_ok()
                 } else {
                     false
@@ -176,4 +187,23 @@ impl Sorted {
         }
         Ok(Sorted { pairs })
     }
+}
+
+// Where the key's pair is, or where it would go. Ends at the first pair that it meets with the key.
+fn search(pairs: &[Pair], key: &[u8]) -> Result<usize, usize>
+    requires { IsRising pairs.now }
+    ensures found { IfOk result (IsAt key.now pairs.now) }
+    ensures absent { IfErr result (IsGap key.now pairs.now) }
+{
+    let mut low: usize = 0;
+    let mut high = pairs.len();
+    while low < high {
+        let mid = low + (high - low) / 2;
+        match pairs[mid].cmp_key(key) {
+            Ordering::Less => low = mid + 1,
+            Ordering::Equal => return Ok(mid),
+            Ordering::Greater => high = mid,
+        }
+    }
+    Err(low)
 }

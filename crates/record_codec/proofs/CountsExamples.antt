@@ -10,7 +10,7 @@ use Rattle.record_codec.specs.declared.mail_rec.MailRec.{MailRec}
 use Rattle.record_codec.specs.declared.register_rec.RegisterRec.{RegisterRec}
 use Rattle.record_codec.specs.declared.share_rec.ShareRec.{ShareRec}
 use Rattle.record_codec.specs.declared.watch.WatchRec.{WatchRec}
-use Rattle.record_codec.specs.Counts.{Records, settled_lease, IsSettledLease, open_counts, watch_counts, register_watch_counts}
+use Rattle.record_codec.specs.Counts.{Records, settled_lease, IsSettledLease, open_counts, pending_counts, watch_counts, register_watch_counts}
 
 -- pid 101 lives in session 1, and no other pid lives
 abbrev register : ℕ → Option RegisterRec
@@ -36,11 +36,11 @@ connected = record { id = record { pid = 101; call = 2 }; owner = record { pid =
 
 -- a lease of a file, with no break
 abbrev unbroken : ℕ → ℕ → List LeaseRef → LeaseRec
-unbroken file held refs = record { file = file; held = record { 0 = held }; breaking = false; asked = record { 0 = 0 }; needed = record { 0 = 0 }; refs = refs }
+unbroken file held refs = record { file = file; held = record { 0 = held }; breaking = false; asked = record { 0 = 0 }; needed = record { 0 = 0 }; until = 0; refs = refs }
 
 -- a lease of file 1 in RWH that is being broken to RW
 abbrev broken : List LeaseRef → LeaseRec
-broken refs = record { file = 1; held = record { 0 = 7 }; breaking = true; asked = record { 0 = 5 }; needed = record { 0 = 5 }; refs = refs }
+broken refs = record { file = 1; held = record { 0 = 7 }; breaking = true; asked = record { 0 = 5 }; needed = record { 0 = 5 }; until = 135; refs = refs }
 
 abbrev name : LeaseName
 name = record { guid = 1; key = 7 }
@@ -51,6 +51,7 @@ share = record {
   file = 1;
   path = codes "/srv/data";
   name = codes "a.txt";
+  pending = true;
   entries = record {
     id = record { pid = 102; call = 1 };
     owner = record { pid = 102; session = 1 };
@@ -60,6 +61,7 @@ share = record {
     lease = Some name;
     durable = 60;
     opened = 0;
+    marked = false;
   } ∷ [];
   watchers = [];
 }
@@ -113,6 +115,17 @@ lease_of_another_open = refl
 -- There is no share mode record of file 2.
 no_share_record : open_counts (records (unbroken 1 7 (disconnected ∷ []))) (open_ 2) ≡ false
 no_share_record = refl
+
+-- The pending flag counts where an entry does.
+pending : pending_counts (records (unbroken 1 7 (disconnected ∷ []))) 1 share ≡ true
+pending = refl
+
+-- The lease is one of file 2, and the open's owner doesn't live.
+not_pending : pending_counts (records (unbroken 2 7 (disconnected ∷ []))) 1 share ≡ false
+not_pending = refl
+
+pending_without_entries : pending_counts (records (unbroken 1 7 (disconnected ∷ []))) 1 (record share { entries = [] }) ≡ false
+pending_without_entries = refl
 
 -- ---- watches
 

@@ -9,13 +9,8 @@ use Rattle.byteorder.specs.Numbers.{little_number-reads_back, little_from-lt, le
 use Rattle.record_codec.specs.declared.fault.Unpack.{Unpack}
 use Rattle.record_codec.specs.declared.fault.Unpack.TheVariants.{Short}
 use Rattle.record_codec.specs.Codec.{Codec, ◌>>=◌, raw, number, read_run, run, ◌⨾◌, left_out, via, times_fault, times_read, times}
+pub use Rattle.record_codec.specs.Laws.{IsExact}
 use Rattle.record_codec.proofs.Bytes.{IsBytes, IsBytes-after, bytes-of-number}
-
-pub record IsExact {A : Type 0} (c : Codec A) : Type 0 where
-  pub takes : (bytes : List ℕ) (x : A × List ℕ) → IsBytes bytes → c.read bytes ≡ Ok x → c.valid x.0 × (bytes ≡ c.spell x.0 ++ x.1)
-  pub again : (x : A) (rest : List ℕ) → c.valid x → c.read (c.spell x ++ rest) ≡ Ok (x, rest)
-  pub fails : (bytes : List ℕ) (e : Unpack) → IsBytes bytes → c.read bytes ≡ Err e → c.fault bytes e
-  pub faulty : (bytes : List ℕ) (e : Unpack) → c.fault bytes e → c.read bytes ≡ Err e
 
 -- ---- steps that fail or don't
 

@@ -14,7 +14,7 @@ use Rattle.record_codec.proofs.Sets.{sid_set, mode_valid, truth_valid, list_set}
 use Rattle.record_codec.proofs.Sizes.{items_size}
 use Rattle.record_codec.proofs.Stored.{stored_exact, stored_set}
 
-hold_exact : IsExact hold
+pub hold_exact : IsExact hold
 unfolding hold
 hold_exact = via_exact _ _ _ (λ y. refl) (λ x v. refl)
     (seq_exact _ _ (sid_exact 4 5) (λ _. mode_exact 6))
@@ -27,7 +27,7 @@ pub hold_size : (h : Hold) → length (hold.spell h) ≡ 9
 unfolding hold
 hold_size h = refl
 
-upgrade_watch_exact : IsExact upgrade_watch
+pub upgrade_watch_exact : IsExact upgrade_watch
 unfolding upgrade_watch
 upgrade_watch_exact = via_exact _ _ _ (λ y. refl) (λ x v. refl)
     (seq_exact _ _ (sid_exact 8 9) (λ _. seq_exact _ _ (u32_exact 10) (λ _. truth_exact 11)))

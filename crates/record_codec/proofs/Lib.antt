@@ -17,5 +17,7 @@ pub mod LeaseExact
 pub mod RegisterExact
 pub mod RangeExact
 pub mod MailExact
+pub mod Versions
 pub mod Settled
 pub mod CountsExamples
+pub mod VersionExamples

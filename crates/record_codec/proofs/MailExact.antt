@@ -38,7 +38,7 @@ spot_exact : (kind number : ℕ) → IsExact (spot kind number)
 spot_exact kind number = via_exact _ _ _ spot_made (λ p v. spot_taken p.0 p.1 v.0.1)
     (seq_exact _ _ (u8_in_exact kind (within 0 2)) (λ k. u64_in_exact number (number_of_spot k)))
 
-token_exact : IsExact token
+pub token_exact : IsExact token
 unfolding token
 token_exact = via_exact _ _ _ (λ y. refl) (λ x v. refl)
     (seq_exact _ _ (spot_exact 5 6) (λ _. u32_exact 7))
@@ -66,7 +66,7 @@ letter_taken (true, (call, rest)) v =
     let c : 0 ≡ call = sym (eqb-true _ _ v.1.0.1) in
     rw (← c) refl
 
-letter_exact : IsExact letter
+pub letter_exact : IsExact letter
 unfolding letter
 letter_exact = via_exact _ _ _ letter_made letter_taken
     (seq_exact _ _ (truth_exact 9) (λ breaks.

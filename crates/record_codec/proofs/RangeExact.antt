@@ -15,7 +15,7 @@ use Rattle.record_codec.proofs.Sets.{mode_valid, open_id_set, watch_set, list_se
 use Rattle.record_codec.proofs.Sizes.{items_size}
 use Rattle.record_codec.proofs.Stored.{stored_exact, stored_set}
 
-range_item_exact : IsExact range_item
+pub range_item_exact : IsExact range_item
 unfolding range_item
 range_item_exact = via_exact _ _ _ (λ y. refl) (λ x v. refl)
     (seq_exact _ _ (open_id_exact 5 6) (λ _.

@@ -40,7 +40,7 @@ to_parts : (records : Records) (lease : LeaseRec) → IsSettledLease records lea
 to_parts records lease e = go (filter (ref_counts records lease) lease.refs) refl e where
   kept : (refs : List LeaseRef) (b : Bool) → is_unanswered records lease ≡ b → filter (ref_counts records lease) lease.refs ≡ refs → 0 < length refs → with_refs records lease refs ≡ lease → HasNoStalePart records lease
   kept refs true u f some w =
-      let over : with_refs records lease refs ≡ record { file = lease.file; held = lease.needed; breaking = false; asked = record { 0 = 0 }; needed = record { 0 = 0 }; refs = refs } = rw u refl in
+      let over : with_refs records lease refs ≡ record { file = lease.file; held = lease.needed; breaking = false; asked = record { 0 = 0 }; needed = record { 0 = 0 }; until = 0; refs = refs } = rw u refl in
       let no : false ≡ lease.breaking = ap (λ (l : LeaseRec). l.breaking) (sym over ∙ w) in
       let yes = breaks records lease u in
       absurd cc

@@ -88,7 +88,7 @@ settled_refs records lease = filter (ref_counts records lease) lease.refs
 abbrev pub with_refs : Records → LeaseRec → List LeaseRef → LeaseRec
 with_refs records lease refs =
     if is_unanswered records lease
-    then record { file = lease.file; held = lease.needed; breaking = false; asked = record { 0 = 0 }; needed = record { 0 = 0 }; refs = refs }
+    then record { file = lease.file; held = lease.needed; breaking = false; asked = record { 0 = 0 }; needed = record { 0 = 0 }; until = 0; refs = refs }
     else record lease { refs = refs }
 
 -- A lease without opens is gone.
@@ -127,6 +127,10 @@ is_kept records file id (Some name) = keeps records file id (records.lease name)
 abbrev pub entry_counts : Records → ℕ → ShareEntry → Bool
 entry_counts records file entry =
     lives records entry.owner || (not (entry.durable == 0) && is_kept records file entry.id entry.lease)
+
+-- The pending flag of the share mode record of this file: an entry of the record counts.
+abbrev pub pending_counts : Records → ℕ → ShareRec → Bool
+pending_counts records file share = list_any (entry_counts records file) share.entries
 
 abbrev pub entry_of_id_counts : Records → ℕ → OpenId → Option ShareRec → Bool
 entry_of_id_counts records file id None = false

@@ -1,12 +1,23 @@
 -- What each record's codec is: a grammar with one spelling for each value, and one value or one fault for all bytes,
--- and a reader that answers exactly that value or that fault.
-use Rattle.std.specs.Prelude.{◌≡◌, ℕ, ◌<◌, ◌⊎◌, List, Ok, Err, slice_index}
+-- and a reader that answers exactly that value or that fault. And what each field's and each item's codec is, which reads
+-- the front of the bytes.
+use Rattle.std.specs.Prelude.{◌≡◌, ℕ, ◌<◌, ◌⊎◌, List, ◌++◌, Ok, Err, slice_index}
 use Rattle.record_codec.specs.declared.fault.Unpack.{Unpack}
 use Rattle.record_codec.specs.Codec.{Codec, Spells, FirstFault, read_all}
 
 -- each is a byte
 abbrev pub AreBytes : List ℕ → Type 0
 AreBytes bytes = (i : ℕ) → slice_index bytes i < 256
+
+pub record IsExact {A : Type 0} (c : Codec A) : Type 0 where
+  -- A value that is read lies in its sets, and the bytes begin with its spelling.
+  pub takes : (bytes : List ℕ) (x : A × List ℕ) → AreBytes bytes → c.read bytes ≡ Ok x → c.valid x.0 × (bytes ≡ c.spell x.0 ++ x.1)
+  -- What begins with a value's spelling is read as that value.
+  pub again : (x : A) (rest : List ℕ) → c.valid x → c.read (c.spell x ++ rest) ≡ Ok (x, rest)
+  -- A fault that the reader answers is the first fault.
+  pub fails : (bytes : List ℕ) (e : Unpack) → AreBytes bytes → c.read bytes ≡ Err e → c.fault bytes e
+  -- The reader answers the first fault.
+  pub faulty : (bytes : List ℕ) (e : Unpack) → c.fault bytes e → c.read bytes ≡ Err e
 
 pub record IsGrammar {A : Type 0} (c : Codec A) : Type 0 where
   -- A value in its sets is spelled by its spelling, so what is packed is unpacked to the same value.

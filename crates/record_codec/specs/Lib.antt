@@ -5,6 +5,7 @@ pub mod Reads
 pub mod InPlace
 pub mod OpenRec
 pub mod GLockRec
+pub mod SmallText
 pub mod ShareRec
 pub mod LeaseRec
 pub mod RegisterRec

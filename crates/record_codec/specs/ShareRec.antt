@@ -1,13 +1,15 @@
 -- The record of the opens of a file.
-use Rattle.std.specs.Prelude.{◌≡◌, ℕ, Bool, true, false, nat_lt, ◌==◌, ◌&&◌, Option, Some, None, is_some, bit_and, codes}
-use Rattle.sid_core.specs.Values.{IsU32, IsU64, IsAccess, IsShare, IsMoment, IsText}
+use Rattle.std.specs.Prelude.{◌≡◌, ℕ, ◌+◌, Bool, true, false, nat_lt, IsTrue, ◌==◌, ◌&&◌, Option, Some, None, is_some, List, bit_and, codes}
+use Rattle.std.specs.List.{AllByRecursion}
+use Rattle.sid_core.specs.Values.{IsU32, IsU64, IsAccess, IsShare, IsMoment, IsText, has}
 use Rattle.sid_core.specs.declared.bits.Access.{Access}
 use Rattle.sid_core.specs.declared.bits.Share.{Share}
 use Rattle.sid_core.specs.declared.ids.LeaseName.{LeaseName}
 use Rattle.record_codec.specs.declared.share_rec.ShareEntry.{ShareEntry}
 use Rattle.record_codec.specs.declared.share_rec.ShareRec.{ShareRec}
-use Rattle.record_codec.specs.Codec.{Codec, ◌⨾◌, via}
-use Rattle.record_codec.specs.Fields.{within, zero_unless, is_moment, u8_in, u32, u32_in, u64_in, truth, text, open_id, IsOpenId, sid, IsSid, list, IsListOf, watch, IsWatch}
+use Rattle.record_codec.specs.declared.watch.WatchRec.{WatchRec}
+use Rattle.record_codec.specs.Codec.{Codec, ◌⨾◌, left_out, via}
+use Rattle.record_codec.specs.Fields.{within, zero_unless, is_moment, u8_in, u32, u32_in, u64_in, truth, truth_in, text, open_id, IsOpenId, sid, IsSid, list, IsListOf, watch, IsWatch}
 use Rattle.record_codec.specs.Stored.{stored}
 
 -- some of the fourteen rights, and nothing else
@@ -48,7 +50,11 @@ abbrev pub IsLeaseName : Option LeaseName → Type 0
 IsLeaseName None = Unit {0}
 IsLeaseName (Some name) = IsName name
 
--- An open without a lease isn't durable.
+-- the right to delete the file
+abbrev pub has_delete : Access → Bool
+has_delete access = has access.0 0x10000
+
+-- An open without a lease isn't durable, and one that is marked may delete the file.
 pub record IsShareEntry (e : ShareEntry) : Type 0 where
   pub id : IsOpenId e.id
   pub owner : IsSid e.owner
@@ -59,19 +65,37 @@ pub record IsShareEntry (e : ShareEntry) : Type 0 where
   pub durable : IsU32 e.durable
   pub without_lease : e.lease ≡ None → e.durable ≡ 0
   pub opened : IsMoment e.opened
+  pub marked : e.marked ≡ true → IsTrue (has_delete e.access)
 
+-- an entry that isn't marked
+pub record IsUnmarkedEntry (e : ShareEntry) : Type 0 where
+  pub entry : IsShareEntry e
+  pub unmarked : e.marked ≡ false
+
+-- An entry without its mark, whose fields are numbered from this one on.
+unfoldable pub unmarked_entry : ℕ → Codec ShareEntry
+unmarked_entry first = via
+    (λ p. record { id = p.0; owner = p.1.0; handle = p.1.1.0; access = p.1.1.1.0; share = p.1.1.1.1.0; lease = p.1.1.1.1.1.0; durable = p.1.1.1.1.1.1.0; opened = p.1.1.1.1.1.1.1.0; marked = p.1.1.1.1.1.1.1.1 })
+    (λ e. (e.id, (e.owner, (e.handle, (e.access, (e.share, (e.lease, (e.durable, (e.opened, e.marked))))))))) (
+    open_id first (first + 1) ⨾ λ id.
+    sid (first + 2) (first + 3) ⨾ λ owner.
+    u32 (first + 4) ⨾ λ handle.
+    access (first + 5) ⨾ λ access.
+    share_bits (first + 6) ⨾ λ share.
+    lease_name (first + 7) (first + 8) (first + 9) ⨾ λ lease.
+    u32_in (first + 10) (zero_unless (is_some lease)) ⨾ λ durable.
+    u64_in (first + 11) is_moment ⨾ λ opened.
+    left_out false)
+
+-- the entry with that mark
+abbrev pub with_mark : Bool → ShareEntry → ShareEntry
+with_mark mark e = record e { marked = mark }
+
+-- An entry and its mark, which is false unless the open may delete the file.
 unfoldable pub share_entry : Codec ShareEntry
-share_entry = via
-    (λ p. record { id = p.0; owner = p.1.0; handle = p.1.1.0; access = p.1.1.1.0; share = p.1.1.1.1.0; lease = p.1.1.1.1.1.0; durable = p.1.1.1.1.1.1.0; opened = p.1.1.1.1.1.1.1 })
-    (λ e. (e.id, (e.owner, (e.handle, (e.access, (e.share, (e.lease, (e.durable, e.opened)))))))) (
-    open_id 7 8 ⨾ λ id.
-    sid 9 10 ⨾ λ owner.
-    u32 11 ⨾ λ handle.
-    access 12 ⨾ λ access.
-    share_bits 13 ⨾ λ share.
-    lease_name 14 15 16 ⨾ λ lease.
-    u32_in 17 (zero_unless (is_some lease)) ⨾ λ durable.
-    u64_in 18 is_moment)
+share_entry = via (λ p. with_mark p.1 p.0) (λ e. (with_mark false e, e.marked)) (
+    unmarked_entry 8 ⨾ λ entry.
+    truth_in 20 (zero_unless (has_delete entry.access)))
 
 pub record IsShareRec (r : ShareRec) : Type 0 where
   pub file : IsU32 r.file
@@ -80,15 +104,44 @@ pub record IsShareRec (r : ShareRec) : Type 0 where
   pub entries : IsListOf IsShareEntry r.entries
   pub watchers : IsListOf IsWatch r.watchers
 
-unfoldable pub share_fields : Codec ShareRec
-share_fields = via
-    (λ p. record { file = p.0; path = p.1.0; name = p.1.1.0; entries = p.1.1.1.0; watchers = p.1.1.1.1 })
-    (λ r. (r.file, (r.path, (r.name, (r.entries, r.watchers))))) (
+-- What version 1 has no fields for: the file isn't pending, and no entry is marked.
+pub record HasNoMark (r : ShareRec) : Type 0 where
+  pub pending : r.pending ≡ false
+  pub entries : AllByRecursion (λ e. e.marked ≡ false) r.entries
+
+abbrev pub made_of : ℕ × (List ℕ × (List ℕ × (Bool × (List ShareEntry × List WatchRec)))) → ShareRec
+made_of p = record { file = p.0; path = p.1.0; name = p.1.1.0; pending = p.1.1.1.0; entries = p.1.1.1.1.0; watchers = p.1.1.1.1.1 }
+
+abbrev pub parts_of : ShareRec → ℕ × (List ℕ × (List ℕ × (Bool × (List ShareEntry × List WatchRec))))
+parts_of r = (r.file, (r.path, (r.name, (r.pending, (r.entries, r.watchers)))))
+
+-- the fields of version 1
+unfoldable pub old_share_fields : Codec ShareRec
+old_share_fields = via made_of parts_of (
     u32 3 ⨾ λ file.
     text 4 ⨾ λ path.
     text 5 ⨾ λ name.
-    list 6 share_entry ⨾ λ entries.
+    left_out false ⨾ λ pending.
+    list 6 (unmarked_entry 7) ⨾ λ entries.
     list 19 (watch 20 21 22))
 
+-- the fields of version 2
+unfoldable pub share_fields : Codec ShareRec
+share_fields = via made_of parts_of (
+    u32 3 ⨾ λ file.
+    text 4 ⨾ λ path.
+    text 5 ⨾ λ name.
+    truth 6 ⨾ λ pending.
+    list 7 share_entry ⨾ λ entries.
+    list 21 (watch 22 23 24))
+
+abbrev pub old_or_new_fields : Bool → Codec ShareRec
+old_or_new_fields true = old_share_fields
+old_or_new_fields false = share_fields
+
+-- the fields of a version
+abbrev pub share_fields_of : ℕ → Codec ShareRec
+share_fields_of version = old_or_new_fields (version == 1)
+
 abbrev pub share_rec : Codec (ℕ × ShareRec)
-share_rec = stored (codes "SHAR") 1 1 (λ version. share_fields)
+share_rec = stored (codes "SHAR") 1 2 share_fields_of

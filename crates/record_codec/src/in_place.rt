@@ -71,6 +71,7 @@ impl<'a, T: Copy, R: Row<T>> Iterator for LentItems<'a, T, R> {
 }
 
 /// So many items, each judged, and the bytes after them. Takes no memory.
+#[inline(always)]
 pub(crate) fn items_at<T: Copy, R: Row<T>>(
     count: u32,
     bytes: &[u8],
@@ -91,6 +92,7 @@ pub(crate) fn items_at<T: Copy, R: Row<T>>(
 }
 
 /// The items of a list, each judged as `unpack` judges it, and the bytes after them. Takes no memory.
+#[inline(always)]
 pub fn list_at<T: Copy, R: Row<T>>(bytes: &[u8]) -> Result<(LentItems<'_, T, R>, &[u8]), Unpack>
     ensures { Gives (λ x. (x.0, x.1.now)) result ((list 0 R.codec).read bytes.now) }
 {

@@ -1,12 +1,15 @@
 ghost use Rattle.std.specs.Prelude.{◌≡◌, ◌+◌, ◌*◌, ◌++◌, ◌≤◌, codes, length, vec_len, vec_capacity};
+ghost use Rattle.byteorder.specs.Endian.{little_bytes};
 ghost use Rattle.record_codec.specs.Fields.{state as state_codec, truth as truth_codec};
 ghost use Rattle.record_codec.specs.LeaseRec.{lease_ref, IsLeaseRef, lease_fields, IsLeaseRec};
 
 use crate::fault::Unpack;
-use crate::reading::{lowered_at, needed_at, open_id_at, sid_at, state_at, truth_at, u32_at};
+use crate::reading::{
+    expiry_at, lowered_at, needed_at, open_id_at, sid_at, state_at, truth_at, u32_at,
+};
 use crate::record::Packed;
 use crate::rows::{Row, owned_list_at, put_list};
-use crate::writing::{put_open_id, put_sid, put_state, put_truth, put_u32};
+use crate::writing::{put_open_id, put_sid, put_state, put_truth, put_u32, put_u64};
 use sid_core::{Items, LeaseState, OpenId, Sid};
 use std::alloc::Global;
 
@@ -27,6 +30,8 @@ pub struct LeaseRec {
     pub breaking: bool,
     pub asked: LeaseState,
     pub needed: LeaseState,
+    /// The moment at which the break expires; 0 where the lease isn't being broken.
+    pub until: u64,
     pub refs: Items<LeaseRef>,
 }
 
@@ -62,14 +67,15 @@ impl Row<LeaseRef> for LeaseRefRow {
 
 impl LeaseRec {
     fn put_break(&self, out: &mut Vec<u8>)
-        requires { vec_len out.old + 3 ≤ vec_capacity out.old }
-        ensures items { out.new.items ≡ out.old.items ++ ((truth_codec 5).spell self.now.breaking ++ ((state_codec 6).spell self.now.asked ++ (state_codec 7).spell self.now.needed)) }
-        ensures len { vec_len out.new ≡ vec_len out.old + 3 }
+        requires { vec_len out.old + 11 ≤ vec_capacity out.old }
+        ensures items { out.new.items ≡ out.old.items ++ ((truth_codec 5).spell self.now.breaking ++ ((state_codec 6).spell self.now.asked ++ ((state_codec 7).spell self.now.needed ++ little_bytes 8 self.now.until))) }
+        ensures len { vec_len out.new ≡ vec_len out.old + 11 }
         ensures room { vec_capacity out.old ≤ vec_capacity out.new }
     {
         put_truth(out, self.breaking);
         put_state(out, self.asked);
         put_state(out, self.needed);
+        put_u64(out, self.until);
     }
 }
 
@@ -77,24 +83,24 @@ impl LeaseRec {
 impl Packed for LeaseRec {
     ghost MAGIC = { codes "LEAS" };
 
-    ghost OLDEST = { 1 };
+    ghost OLDEST = { 2 };
 
-    ghost NEWEST = { 1 };
+    ghost NEWEST = { 2 };
 
     ghost fields = { λ version. lease_fields };
 
     ghost valid = { IsLeaseRec };
 
-    ghost size = { λ r. 12 + 20 * length r.refs };
+    ghost size = { λ r. 20 + 20 * length r.refs };
 
     const MAGIC: [u8; 4] = *b"LEAS";
 
-    const OLDEST: u16 = 1;
+    const OLDEST: u16 = 2;
 
-    const NEWEST: u16 = 1;
+    const NEWEST: u16 = 2;
 
     fn fields_size(&self) -> usize {
-        12 + 20 * self.refs.len()
+        20 + 20 * self.refs.len()
     }
 
     fn put_fields(&self, out: &mut Vec<u8>) {
@@ -110,6 +116,7 @@ impl Packed for LeaseRec {
         let (breaking, rest) = truth_at(rest, 5)?;
         let (asked, rest) = lowered_at(rest, 6, breaking, held)?;
         let (needed, rest) = needed_at(rest, 7, breaking, asked)?;
+        let (until, rest) = expiry_at(rest, 8, breaking)?;
         let (refs, rest) = owned_list_at::<LeaseRef, LeaseRefRow>(alloc, rest)?;
         let record = LeaseRec {
             file,
@@ -117,6 +124,7 @@ impl Packed for LeaseRec {
             breaking,
             asked,
             needed,
+            until,
             refs,
         };
         Ok((record, rest))

@@ -14,13 +14,17 @@ mod record;
 mod register_rec;
 mod rows;
 mod share_rec;
+mod small_text;
 mod watch;
 mod writing;
 
 pub use fault::Unpack;
 pub use glock_rec::{GLockRec, Hold, HoldRow, UpgradeRow};
 pub use in_place::{LentItems, list_at};
-pub use laws::{packed_and_unpacked, sets_of_values, settled_leases};
+pub use laws::{
+    packed_and_unpacked, packed_old_and_unpacked, sets_of_values, settled_leases,
+    versions_of_records,
+};
 pub use lease_rec::{LeaseRec, LeaseRef, LeaseRefRow};
 pub use mail_rec::{LetterRow, MailRec, Token, TokenRow};
 pub use open_rec::OpenRec;
@@ -28,5 +32,6 @@ pub use range_rec::{RangeItem, RangeRec, RangeRow};
 pub use record::Packed;
 pub use register_rec::{EndedRow, RegisterRec};
 pub use rows::Row;
-pub use share_rec::{ShareEntry, ShareEntryRow, ShareRec};
+pub use share_rec::{ShareEntry, ShareEntryRow, ShareRec, UnmarkedEntryRow};
+pub use small_text::SmallText;
 pub use watch::{WatchRec, WatchRow};

@@ -5,7 +5,7 @@ ghost use Rattle.sid_core.specs.Values.{is_state as is_state_number};
 ghost use Rattle.record_codec.specs.declared.fault.Unpack.TheVariants.{BadField};
 ghost use Rattle.record_codec.specs.Codec.{raw, number as number_codec, read_run};
 ghost use Rattle.record_codec.specs.Fields.{within, is_moment, is_printable as is_printable_number, is_text_length, lowered, u32_in, u64_in, zero_unless, truth, truth_in, mode, state, state_in, sid, open_id, text};
-ghost use Rattle.record_codec.specs.LeaseRec.{needed};
+ghost use Rattle.record_codec.specs.LeaseRec.{needed, expires};
 ghost use Rattle.record_codec.specs.Reads.{Gives};
 
 use crate::fault::Unpack;
@@ -236,6 +236,27 @@ pub fn needed_at(
         return Err(Unpack::BadField(field));
     }
     Ok((LeaseState(number), rest))
+}
+
+fn is_expiry(number: u64, breaking: bool) -> bool
+    ensures { result ≡ expires breaking number }
+{
+    if breaking {
+        35 <= number && number <= 10_000_000_034
+    } else {
+        number == 0
+    }
+}
+
+/// The moment at which a break expires; 0 where there is no break.
+pub fn expiry_at(bytes: &[u8], field: u32, breaking: bool) -> Result<(u64, &[u8]), Unpack>
+    ensures { Gives (λ x. (x.0, x.1.now)) result ((u64_in field (expires breaking)).read bytes.now) }
+{
+    let (number, rest) = u64_at(bytes)?;
+    if !is_expiry(number, breaking) {
+        return Err(Unpack::BadField(field));
+    }
+    Ok((number, rest))
 }
 
 fn is_printable(byte: u8) -> bool

@@ -2,6 +2,7 @@ ghost use Rattle.std.specs.Prelude.{◌≡◌, ◌+◌, ◌*◌, ◌++◌, ◌<�
 ghost use Rattle.std.specs.List.{AllByRecursion};
 ghost use Rattle.record_codec.specs.Codec.{Codec, times_read};
 ghost use Rattle.record_codec.specs.Fields.{list};
+ghost use Rattle.record_codec.specs.Laws.{IsExact};
 ghost use Rattle.record_codec.specs.Reads.{Gives, GivesOrMemory};
 
 use crate::fault::Unpack;
@@ -36,8 +37,10 @@ pub trait Row<T: Copy>: Drop {
         ensures len { vec_len out.new ≡ vec_len out.old + SIZE }
         ensures room { vec_capacity out.old ≤ vec_capacity out.new };
 
-    /// The sets of an item's values are those of its fields, and each item has that many bytes.
+    /// An item that is read lies in its sets and has the spelling that was read, the sets of an item's values are those of
+    /// its fields, and each item has that many bytes.
     fn laws()
+        ensures exact { IsExact codec }
         ensures sets { (x : T) → valid x ↔ codec.valid x }
         ensures sized { (x : T) → length (codec.spell x) ≡ SIZE };
 }

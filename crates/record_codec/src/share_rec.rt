@@ -1,18 +1,22 @@
-ghost use Rattle.std.specs.Prelude.{◌≡◌, ◌+◌, ◌*◌, ◌++◌, ◌<◌, ◌≤◌, ◌^◌, codes, length, vec_len, vec_capacity};
+ghost use Rattle.std.specs.Prelude.{◌≡◌, ◌+◌, ◌*◌, ◌++◌, ◌<◌, ◌≤◌, ◌^◌, ◌↔◌, IfOk, IsTrue, codes, length, vec_len, vec_capacity};
 ghost use Rattle.byteorder.specs.Endian.{little_bytes};
 ghost use Rattle.record_codec.specs.Fields.{open_id, sid, text};
-ghost use Rattle.record_codec.specs.ShareRec.{access as access_codec, is_access as is_access_number, lease_name, share_bits, share_entry, IsShareEntry, share_fields, IsShareRec};
+ghost use Rattle.record_codec.specs.ShareRec.{access as access_codec, is_access as is_access_number, has_delete, lease_name, share_bits, unmarked_entry, IsUnmarkedEntry, share_entry, IsShareEntry, old_share_fields, share_fields, share_fields_of, share_rec, HasNoMark, IsShareRec};
 ghost use Rattle.record_codec.specs.Reads.{Gives, GivesOrMemory};
 
 use crate::fault::Unpack;
 use crate::reading::{
-    moment_at, open_id_at, sid_at, text_at, truth_at, u8_at, u32_at, u32_or_zero_at, u64_or_zero_at,
+    moment_at, open_id_at, sid_at, text_at, truth_at, truth_or_zero_at, u8_at, u32_at,
+    u32_or_zero_at, u64_or_zero_at,
 };
 use crate::record::Packed;
 use crate::rows::{Row, owned_list_at, put_list};
+use crate::small_text::SmallText;
 use crate::watch::{WatchRec, WatchRow};
-use crate::writing::{put_open_id, put_sid, put_text, put_truth, put_u8, put_u32, put_u64};
-use sid_core::{Access, Items, LeaseName, OpenId, Share, Sid, Text};
+use crate::writing::{
+    put_header, put_open_id, put_sid, put_text, put_truth, put_u8, put_u32, put_u64,
+};
+use sid_core::{Access, Items, LeaseName, OpenId, OutOfMemory, Share, Sid};
 use std::alloc::Global;
 
 /// An open of a file.
@@ -28,14 +32,18 @@ pub struct ShareEntry {
     pub durable: u32,
     /// The moment of opening.
     pub opened: u64,
+    /// Whether the file is deleted once this open is closed and no other is left.
+    pub marked: bool,
 }
 
 /// The opens of a file, and which calls wait for them.
 #[derive(Drop)]
 pub struct ShareRec {
     pub file: u32,
-    pub path: Text,
-    pub name: Text,
+    pub path: SmallText,
+    pub name: SmallText,
+    /// Whether the file is deleted once no open of it is left.
+    pub pending: bool,
     pub entries: Items<ShareEntry>,
     pub watchers: Items<WatchRec>,
 }
@@ -46,34 +54,39 @@ fn is_access(bits: u32) -> bool
     bits != 0 && bits & 0x1F_01FF == bits
 }
 
-fn access_at(bytes: &[u8]) -> Result<(Access, &[u8]), Unpack>
-    ensures { Gives (λ x. (x.0, x.1.now)) result ((access_codec 12).read bytes.now) }
+fn access_at(bytes: &[u8], field: u32) -> Result<(Access, &[u8]), Unpack>
+    ensures { Gives (λ x. (x.0, x.1.now)) result ((access_codec field).read bytes.now) }
 {
     let (bits, rest) = u32_at(bytes)?;
     if !is_access(bits) {
-        return Err(Unpack::BadField(12));
+        return Err(Unpack::BadField(field));
     }
     Ok((Access(bits), rest))
 }
 
-fn share_at(bytes: &[u8]) -> Result<(Share, &[u8]), Unpack>
-    ensures { Gives (λ x. (x.0, x.1.now)) result ((share_bits 13).read bytes.now) }
+fn share_at(bytes: &[u8], field: u32) -> Result<(Share, &[u8]), Unpack>
+    ensures { Gives (λ x. (x.0, x.1.now)) result ((share_bits field).read bytes.now) }
 {
     let (bits, rest) = u8_at(bytes)?;
     if 7 < bits {
-        return Err(Unpack::BadField(13));
+        return Err(Unpack::BadField(field));
     }
     Ok((Share(bits as u32), rest))
 }
 
 #[inline(always)]
-fn lease_name_at(bytes: &[u8]) -> Result<(Option<LeaseName>, &[u8]), Unpack>
-    ensures { Gives (λ x. (x.0, x.1.now)) result ((lease_name 14 15 16).read bytes.now) }
+fn lease_name_at(
+    bytes: &[u8],
+    leased: u32,
+    guid: u32,
+    key: u32,
+) -> Result<(Option<LeaseName>, &[u8]), Unpack>
+    ensures { Gives (λ x. (x.0, x.1.now)) result ((lease_name leased guid key).read bytes.now) }
 {
-    let (leased, rest) = truth_at(bytes, 14)?;
-    let (guid, rest) = u64_or_zero_at(rest, 15, leased)?;
-    let (key, rest) = u64_or_zero_at(rest, 16, leased)?;
-    if leased {
+    let (has_lease, rest) = truth_at(bytes, leased)?;
+    let (guid, rest) = u64_or_zero_at(rest, guid, has_lease)?;
+    let (key, rest) = u64_or_zero_at(rest, key, has_lease)?;
+    if has_lease {
         Ok((Some(LeaseName { guid, key }), rest))
     } else {
         Ok((None, rest))
@@ -82,7 +95,7 @@ fn lease_name_at(bytes: &[u8]) -> Result<(Option<LeaseName>, &[u8]), Unpack>
 
 fn put_lease_name(out: &mut Vec<u8>, lease: Option<LeaseName>)
     requires { vec_len out.old + 17 ≤ vec_capacity out.old }
-    ensures items { out.new.items ≡ out.old.items ++ (lease_name 14 15 16).spell lease }
+    ensures items { out.new.items ≡ out.old.items ++ (lease_name 0 0 0).spell lease }
     ensures len { vec_len out.new ≡ vec_len out.old + 17 }
     ensures room { vec_capacity out.old ≤ vec_capacity out.new }
 {
@@ -95,19 +108,21 @@ fn put_lease_name(out: &mut Vec<u8>, lease: Option<LeaseName>)
     put_u64(out, key);
 }
 
+// An entry whose fields are numbered from that one on, without a mark.
 #[inline(always)]
-#[tactic(auto, unfolding(crate::specs::ShareRec::share_entry))]
-fn entry_at(bytes: &[u8]) -> Result<(ShareEntry, &[u8]), Unpack>
-    ensures { Gives (λ x. (x.0, x.1.now)) result (share_entry.read bytes.now) }
+#[tactic(auto, unfolding(crate::specs::ShareRec::unmarked_entry))]
+fn unmarked_entry_at(bytes: &[u8], first: u32) -> Result<(ShareEntry, &[u8]), Unpack>
+    requires { first + 11 < 2 ^ 32 }
+    ensures { Gives (λ x. (x.0, x.1.now)) result ((unmarked_entry first).read bytes.now) }
 {
     let (id, rest) = open_id_at(bytes)?;
     let (owner, rest) = sid_at(rest)?;
     let (handle, rest) = u32_at(rest)?;
-    let (access, rest) = access_at(rest)?;
-    let (share, rest) = share_at(rest)?;
-    let (lease, rest) = lease_name_at(rest)?;
-    let (durable, rest) = u32_or_zero_at(rest, 17, lease.is_some())?;
-    let (opened, rest) = moment_at(rest, 18)?;
+    let (access, rest) = access_at(rest, first + 5)?;
+    let (share, rest) = share_at(rest, first + 6)?;
+    let (lease, rest) = lease_name_at(rest, first + 7, first + 8, first + 9)?;
+    let (durable, rest) = u32_or_zero_at(rest, first + 10, lease.is_some())?;
+    let (opened, rest) = moment_at(rest, first + 11)?;
     let entry = ShareEntry {
         id,
         owner,
@@ -117,8 +132,25 @@ fn entry_at(bytes: &[u8]) -> Result<(ShareEntry, &[u8]), Unpack>
         lease,
         durable,
         opened,
+        marked: false,
     };
     Ok((entry, rest))
+}
+
+fn may_delete(access: Access) -> bool
+    ensures { result ≡ has_delete access }
+{
+    access.0 & 0x1_0000 != 0
+}
+
+#[inline(always)]
+#[tactic(auto, unfolding(crate::specs::ShareRec::share_entry))]
+fn entry_at(bytes: &[u8]) -> Result<(ShareEntry, &[u8]), Unpack>
+    ensures { Gives (λ x. (x.0, x.1.now)) result (share_entry.read bytes.now) }
+{
+    let (entry, rest) = unmarked_entry_at(bytes, 8)?;
+    let (marked, rest) = truth_or_zero_at(rest, 20, may_delete(entry.access))?;
+    Ok((ShareEntry { marked, ..entry }, rest))
 }
 
 #[cold]
@@ -129,41 +161,17 @@ fn short_entry_at(bytes: &[u8]) -> Result<(ShareEntry, &[u8]), Unpack>
     entry_at(bytes)
 }
 
-/// An open: its id, owner and handle, its rights, its lease and its times.
-#[derive(Clone, Copy)]
-pub enum ShareEntryRow {}
-
-#[tactic(auto, unfolding(crate::specs::ShareRec::share_entry))]
-impl Row<ShareEntry> for ShareEntryRow {
-    ghost codec = { share_entry };
-
-    ghost valid = { IsShareEntry };
-
-    ghost SIZE = { 54 };
-
-    const SIZE: usize = 54;
-
-    // A whole item is read with one look at the length.
-    #[inline(always)]
-    fn at(bytes: &[u8]) -> Result<(ShareEntry, &[u8]), Unpack> {
-        if bytes.len() < 54 {
-            return short_entry_at(bytes);
-        }
-        entry_at(bytes)
-    }
-
-    fn put(out: &mut Vec<u8>, item: &ShareEntry) {
-        put_owner(out, item);
-        put_rights(out, item);
-        put_times(out, item);
-    }
-
-    fn laws() {}
+#[cold]
+#[inline(never)]
+fn short_unmarked_entry_at(bytes: &[u8]) -> Result<(ShareEntry, &[u8]), Unpack>
+    ensures { Gives (λ x. (x.0, x.1.now)) result ((unmarked_entry 7).read bytes.now) }
+{
+    unmarked_entry_at(bytes, 7)
 }
 
 fn put_owner(out: &mut Vec<u8>, entry: &ShareEntry)
     requires { vec_len out.old + 20 ≤ vec_capacity out.old }
-    ensures items { out.new.items ≡ out.old.items ++ ((open_id 7 8).spell entry.now.id ++ ((sid 9 10).spell entry.now.owner ++ little_bytes 4 entry.now.handle)) }
+    ensures items { out.new.items ≡ out.old.items ++ ((open_id 0 0).spell entry.now.id ++ ((sid 0 0).spell entry.now.owner ++ little_bytes 4 entry.now.handle)) }
     ensures len { vec_len out.new ≡ vec_len out.old + 20 }
     ensures room { vec_capacity out.old ≤ vec_capacity out.new }
 {
@@ -185,7 +193,7 @@ fn put_rights(out: &mut Vec<u8>, entry: &ShareEntry)
 
 fn put_times(out: &mut Vec<u8>, entry: &ShareEntry)
     requires { vec_len out.old + 29 ≤ vec_capacity out.old }
-    ensures items { out.new.items ≡ out.old.items ++ ((lease_name 14 15 16).spell entry.now.lease ++ (little_bytes 4 entry.now.durable ++ little_bytes 8 entry.now.opened)) }
+    ensures items { out.new.items ≡ out.old.items ++ ((lease_name 0 0 0).spell entry.now.lease ++ (little_bytes 4 entry.now.durable ++ little_bytes 8 entry.now.opened)) }
     ensures len { vec_len out.new ≡ vec_len out.old + 29 }
     ensures room { vec_capacity out.old ≤ vec_capacity out.new }
 {
@@ -194,13 +202,85 @@ fn put_times(out: &mut Vec<u8>, entry: &ShareEntry)
     put_u64(out, entry.opened);
 }
 
+#[tactic(auto, unfolding(crate::specs::ShareRec::unmarked_entry))]
+fn put_unmarked(out: &mut Vec<u8>, entry: &ShareEntry)
+    requires share { entry.now.share.0 < 256 }
+    requires room { vec_len out.old + 54 ≤ vec_capacity out.old }
+    ensures items { out.new.items ≡ out.old.items ++ (unmarked_entry 0).spell entry.now }
+    ensures len { vec_len out.new ≡ vec_len out.old + 54 }
+    ensures room { vec_capacity out.old ≤ vec_capacity out.new }
+{
+    put_owner(out, entry);
+    put_rights(out, entry);
+    put_times(out, entry);
+}
+
+/// An open: its id, owner and handle, its rights, its lease, its times and its mark.
+#[derive(Clone, Copy)]
+pub enum ShareEntryRow {}
+
+#[tactic(auto, unfolding(crate::specs::ShareRec::unmarked_entry, crate::specs::ShareRec::share_entry))]
+impl Row<ShareEntry> for ShareEntryRow {
+    ghost codec = { share_entry };
+
+    ghost valid = { IsShareEntry };
+
+    ghost SIZE = { 55 };
+
+    const SIZE: usize = 55;
+
+    // A whole item is read with one look at the length.
+    #[inline(always)]
+    fn at(bytes: &[u8]) -> Result<(ShareEntry, &[u8]), Unpack> {
+        if bytes.len() < 55 {
+            return short_entry_at(bytes);
+        }
+        entry_at(bytes)
+    }
+
+    fn put(out: &mut Vec<u8>, item: &ShareEntry) {
+        put_unmarked(out, item);
+        put_truth(out, item.marked);
+    }
+
+    fn laws() {}
+}
+
+/// An open as version 1 of its record has it: without a mark.
+#[derive(Clone, Copy)]
+pub enum UnmarkedEntryRow {}
+
+#[tactic(auto, unfolding(crate::specs::ShareRec::unmarked_entry))]
+impl Row<ShareEntry> for UnmarkedEntryRow {
+    ghost codec = { unmarked_entry 7 };
+
+    ghost valid = { IsUnmarkedEntry };
+
+    ghost SIZE = { 54 };
+
+    const SIZE: usize = 54;
+
+    #[inline(always)]
+    fn at(bytes: &[u8]) -> Result<(ShareEntry, &[u8]), Unpack> {
+        if bytes.len() < 54 {
+            return short_unmarked_entry_at(bytes);
+        }
+        unmarked_entry_at(bytes, 7)
+    }
+
+    fn put(out: &mut Vec<u8>, item: &ShareEntry) {
+        put_unmarked(out, item);
+    }
+
+    fn laws() {}
+}
+
 #[inline(always)]
-fn owned_text_at(alloc: Global, bytes: &[u8], field: u32) -> Result<(Text, &[u8]), Unpack>
+fn owned_text_at(alloc: Global, bytes: &[u8], field: u32) -> Result<(SmallText, &[u8]), Unpack>
     ensures { GivesOrMemory (λ x. (x.0, x.1.now)) result ((text field).read bytes.now) }
 {
     let (lent, rest) = text_at(bytes, field)?;
-    let text = Text::from_vec(Vec::from_slice(alloc, lent)?);
-    Ok((text, rest))
+    Ok((SmallText::from_slice(alloc, lent)?, rest))
 }
 
 impl ShareRec {
@@ -213,8 +293,102 @@ impl ShareRec {
         ensures room { vec_capacity out.old ≤ vec_capacity out.new }
     {
         put_u32(out, self.file);
-        put_text(out, &self.path);
-        put_text(out, &self.name);
+        put_text(out, self.path.bytes());
+        put_text(out, self.name.bytes());
+    }
+
+    #[tactic(auto, unfolding(crate::specs::ShareRec::old_share_fields))]
+    fn put_old_fields(&self, out: &mut Vec<u8>)
+        requires valid { IsShareRec self.now }
+        requires unmarked { HasNoMark self.now }
+        requires room { vec_len out.old + (16 + (length self.now.path + length self.now.name) + 54 * length self.now.entries + 12 * length self.now.watchers) ≤ vec_capacity out.old }
+        ensures { out.new.items ≡ out.old.items ++ old_share_fields.spell self.now }
+    {
+        self.put_file(out);
+        put_list::<ShareEntry, UnmarkedEntryRow>(out, self.entries.as_slice());
+        put_list::<WatchRec, WatchRow>(out, self.watchers.as_slice());
+    }
+
+    #[tactic(auto, unfolding(crate::specs::ShareRec::old_share_fields))]
+    fn old_fields_at(alloc: Global, bytes: &[u8]) -> Result<(ShareRec, &[u8]), Unpack>
+        ensures { GivesOrMemory (λ x. (x.0, x.1.now)) result (old_share_fields.read bytes.now) }
+    {
+        let (file, rest) = u32_at(bytes)?;
+        let (path, rest) = owned_text_at(alloc, rest, 4)?;
+        let (name, rest) = owned_text_at(alloc, rest, 5)?;
+        let (entries, rest) = owned_list_at::<ShareEntry, UnmarkedEntryRow>(alloc, rest)?;
+        let (watchers, rest) = owned_list_at::<WatchRec, WatchRow>(alloc, rest)?;
+        let record = ShareRec {
+            file,
+            path,
+            name,
+            pending: false,
+            entries,
+            watchers,
+        };
+        Ok((record, rest))
+    }
+
+    #[tactic(auto, unfolding(crate::specs::ShareRec::share_fields))]
+    fn new_fields_at(alloc: Global, bytes: &[u8]) -> Result<(ShareRec, &[u8]), Unpack>
+        ensures { GivesOrMemory (λ x. (x.0, x.1.now)) result (share_fields.read bytes.now) }
+    {
+        let (file, rest) = u32_at(bytes)?;
+        let (path, rest) = owned_text_at(alloc, rest, 4)?;
+        let (name, rest) = owned_text_at(alloc, rest, 5)?;
+        let (pending, rest) = truth_at(rest, 6)?;
+        let (entries, rest) = owned_list_at::<ShareEntry, ShareEntryRow>(alloc, rest)?;
+        let (watchers, rest) = owned_list_at::<WatchRec, WatchRow>(alloc, rest)?;
+        let record = ShareRec {
+            file,
+            path,
+            name,
+            pending,
+            entries,
+            watchers,
+        };
+        Ok((record, rest))
+    }
+
+    /// Whether version 1 can hold the record: the file isn't pending, and no entry is marked.
+    pub fn has_no_mark(&self) -> bool
+        ensures { IsTrue result ↔ HasNoMark self.now }
+    {
+        !self.pending && self.entries.as_slice().iter().all(|entry| !entry.marked)
+    }
+
+    /// How many bytes the record has in version 1.
+    #[tactic(auto, using(crate::proofs::ShareExact::packed_old_size))]
+    pub fn packed_old_size(&self) -> usize
+        requires valid { IsShareRec self.now }
+        requires unmarked { HasNoMark self.now }
+        ensures { result ≡ length (share_rec.spell (1, self.now)) }
+    {
+        let texts = self.path.bytes().len() + self.name.bytes().len();
+        22 + texts + 54 * self.entries.len() + 12 * self.watchers.len()
+    }
+
+    /// Adds the one spelling of the record in version 1 to bytes that have room for it. Takes no memory.
+    #[tactic(auto, using(crate::proofs::ShareExact::packed_old_size))]
+    pub fn pack_old_onto(&self, out: &mut Vec<u8>)
+        requires valid { IsShareRec self.now }
+        requires unmarked { HasNoMark self.now }
+        requires room { vec_len out.old + length (share_rec.spell (1, self.now)) ≤ vec_capacity out.old }
+        ensures { out.new.items ≡ out.old.items ++ share_rec.spell (1, self.now) }
+    {
+        put_header(out, *b"SHAR", 1);
+        self.put_old_fields(out);
+    }
+
+    /// The one spelling of the record in version 1, which older workers read. Takes memory once, for exactly its bytes.
+    pub fn pack_old(&self, alloc: Global) -> Result<Vec<u8>, OutOfMemory>
+        requires valid { IsShareRec self.now }
+        requires unmarked { HasNoMark self.now }
+        ensures { IfOk result (λ packed. packed.items ≡ share_rec.spell (1, self.now)) }
+    {
+        let mut out = Vec::with_capacity(alloc, self.packed_old_size())?;
+        self.pack_old_onto(&mut out);
+        Ok(out)
     }
 }
 
@@ -224,45 +398,38 @@ impl Packed for ShareRec {
 
     ghost OLDEST = { 1 };
 
-    ghost NEWEST = { 1 };
+    ghost NEWEST = { 2 };
 
-    ghost fields = { λ version. share_fields };
+    ghost fields = { share_fields_of };
 
     ghost valid = { IsShareRec };
 
-    ghost size = { λ r. 16 + (length r.path + length r.name) + 54 * length r.entries + 12 * length r.watchers };
+    ghost size = { λ r. 17 + (length r.path + length r.name) + 55 * length r.entries + 12 * length r.watchers };
 
     const MAGIC: [u8; 4] = *b"SHAR";
 
     const OLDEST: u16 = 1;
 
-    const NEWEST: u16 = 1;
+    const NEWEST: u16 = 2;
 
     fn fields_size(&self) -> usize {
         let texts = self.path.bytes().len() + self.name.bytes().len();
-        16 + texts + 54 * self.entries.len() + 12 * self.watchers.len()
+        17 + texts + 55 * self.entries.len() + 12 * self.watchers.len()
     }
 
     fn put_fields(&self, out: &mut Vec<u8>) {
         self.put_file(out);
+        put_truth(out, self.pending);
         put_list::<ShareEntry, ShareEntryRow>(out, self.entries.as_slice());
         put_list::<WatchRec, WatchRow>(out, self.watchers.as_slice());
     }
 
-    fn fields_at(alloc: Global, _version: u16, bytes: &[u8]) -> Result<(ShareRec, &[u8]), Unpack> {
-        let (file, rest) = u32_at(bytes)?;
-        let (path, rest) = owned_text_at(alloc, rest, 4)?;
-        let (name, rest) = owned_text_at(alloc, rest, 5)?;
-        let (entries, rest) = owned_list_at::<ShareEntry, ShareEntryRow>(alloc, rest)?;
-        let (watchers, rest) = owned_list_at::<WatchRec, WatchRow>(alloc, rest)?;
-        let record = ShareRec {
-            file,
-            path,
-            name,
-            entries,
-            watchers,
-        };
-        Ok((record, rest))
+    fn fields_at(alloc: Global, version: u16, bytes: &[u8]) -> Result<(ShareRec, &[u8]), Unpack> {
+        if version == 1 {
+            ShareRec::old_fields_at(alloc, bytes)
+        } else {
+            ShareRec::new_fields_at(alloc, bytes)
+        }
     }
 
     fn laws() {}

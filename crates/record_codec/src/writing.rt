@@ -2,7 +2,7 @@ ghost use Rattle.std.specs.Prelude.{◌≡◌, ◌+◌, ◌++◌, ◌<◌, ◌�
 ghost use Rattle.byteorder.specs.Endian.{little_bytes, little_number};
 ghost use Rattle.record_codec.specs.Fields.{open_id, text as text_codec, state, truth as truth_codec, mode as mode_codec, sid as sid_codec};
 
-use sid_core::{LeaseState, Mode, OpenId, Sid, Text};
+use sid_core::{LeaseState, Mode, OpenId, Sid};
 
 // Room is there, so no memory is taken.
 pub(crate) fn put_bytes(out: &mut Vec<u8>, bytes: &[u8])
@@ -110,14 +110,13 @@ pub(crate) fn put_state(out: &mut Vec<u8>, held: LeaseState)
     put_u8(out, held.0);
 }
 
-pub(crate) fn put_text(out: &mut Vec<u8>, text: &Text)
+pub(crate) fn put_text(out: &mut Vec<u8>, text: &[u8])
     requires short { length text.now < 2 ^ 16 }
     requires room { vec_len out.old + (2 + length text.now) ≤ vec_capacity out.old }
     ensures items { out.new.items ≡ out.old.items ++ (text_codec 0).spell text.now }
     ensures len { vec_len out.new ≡ vec_len out.old + (2 + length text.now) }
     ensures room { vec_capacity out.old ≤ vec_capacity out.new }
 {
-    let bytes = text.bytes();
-    put_u16(out, bytes.len() as u16);
-    put_bytes(out, bytes);
+    put_u16(out, text.len() as u16);
+    put_bytes(out, text);
 }

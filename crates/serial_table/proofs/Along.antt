@@ -19,11 +19,13 @@ use Rattle.serial_table.specs.View.{view}
 use Rattle.serial_table.specs.Change.{perform_all}
 use Rattle.serial_table.specs.Decision.{Outcome, conclude}
 use Rattle.serial_table.specs.Session.{end_of_session}
-use Rattle.serial_table.specs.Decide.{outcome}
+use Rattle.serial_table.specs.Decide.{decide, outcome}
 use Rattle.serial_table.specs.Step.{caller_of, declared_at}
 use Rattle.sid_core.specs.Counting.{RisesAbove}
 use Rattle.serial_table.specs.History.{after_event, after_entry, after_all, IsLegalCall, IsLegalEvent, IsLegalEntry, AreLegal, call_number, numbers_of}
 use Rattle.serial_table.proofs.Members.{some_same}
+use Rattle.sid_core.specs.Call.{IsCall, IsCallNumber}
+use Rattle.serial_table.proofs.Expiring.{behind, outcome_table, caller_behind}
 use Rattle.serial_table.proofs.Callers.{IsCallerOf, is_caller_of, one_worker}
 
 -- the last numbers after a call of the worker with this pid
@@ -41,11 +43,23 @@ raised_own low pid number = cond-true (pid == pid) number (low pid) (eq-eqb pid 
 abbrev pub Rises : Setup → (ℕ → ℕ) → List Entry → Type 0
 Rises setup low history = (worker : ℕ) (info : WorkerInfo) → declared_at setup.workers worker ≡ Some info → RisesAbove (low info.pid) (numbers_of worker history)
 
--- what calls keep, and what deaths keep
+-- a call that a script can make, whatever it is answered
+pub record IsRightCall (setup : Setup) (number : ℕ) (moment : Moment) (call : Call) : Type 0 where
+  pub numbered : IsCallNumber number
+  pub timed : IsMoment moment.0
+  pub in_sets : IsCall setup call
+
+pub right_call : (setup : Setup) (t : Table) (by number : ℕ) (moment : Moment) (call : Call) (reply : Reply) → IsLegalCall setup t by number moment call reply → IsRightCall setup number moment call
+right_call setup t by number moment call reply legal = record { numbered = legal.numbered; timed = legal.timed; in_sets = legal.in_sets }
+
+-- what is kept by what expires before calls, by calls behind it, and by deaths
+abbrev pub KeptByExpiry : Setup → ((ℕ → ℕ) → Table → Type 0) → Type 0
+KeptByExpiry setup P = (low : ℕ → ℕ) (t : Table) (caller : Caller) (call : Call) → P low t → P low (behind setup t caller call)
+
 abbrev pub KeptByCalls : Setup → ((ℕ → ℕ) → Table → Type 0) → Type 0
 KeptByCalls setup P =
-    (low : ℕ → ℕ) (t : Table) (by number : ℕ) (moment : Moment) (call : Call) (reply : Reply) (caller : Caller) → P low t → IsLegalCall setup t by number moment call reply
-    → IsCallerOf setup t by number moment caller → low caller.sid.pid < number → P (raise low caller.sid.pid number) (perform_all (outcome setup (view t) caller call).changes t)
+    (low : ℕ → ℕ) (t : Table) (by number : ℕ) (moment : Moment) (call : Call) (caller : Caller) → P low t → IsRightCall setup number moment call
+    → IsCallerOf setup t by number moment caller → low caller.sid.pid < number → P (raise low caller.sid.pid number) (perform_all (conclude (view t) (decide setup (view t) caller call)).changes t)
 
 abbrev pub KeptByDeaths : Setup → ((ℕ → ℕ) → Table → Type 0) → Type 0
 KeptByDeaths setup P =
@@ -78,7 +92,7 @@ no_number low false rest r = r
 
 -- ---- one entry
 
-module _ (setup : Setup) (s : IsSetup setup) (P : (ℕ → ℕ) → Table → Type 0) (calls : KeptByCalls setup P) (deaths : KeptByDeaths setup P) where
+module _ (setup : Setup) (s : IsSetup setup) (P : (ℕ → ℕ) → Table → Type 0) (expiries : KeptByExpiry setup P) (calls : KeptByCalls setup P) (deaths : KeptByDeaths setup P) where
   -- what holds after an event, and the numbers that rise from there on
   abbrev Goes_on : Table → List Entry → Type 0
   Goes_on t rest = (high : ℕ → ℕ) × P high t × Rises setup high rest
@@ -92,7 +106,9 @@ module _ (setup : Setup) (s : IsSetup setup) (P : (ℕ → ℕ) → Table → Ty
       let of = is_caller_of setup t by number moment caller is in
       let above : low of.info.pid < number = rises_at (low of.info.pid) by number (numbers_of by rest) (by == by) refl (rises by of.info of.declared) in (
         raise low caller.sid.pid number,
-        calls low t by number moment call reply caller p legal of (subst (λ pid. low pid < number) (sym of.pid) above),
+        subst (P (raise low caller.sid.pid number)) (sym (outcome_table setup t caller call))
+            (calls low (behind setup t caller call) by number moment call caller (expiries low t caller call p) (right_call setup t by number moment call reply legal)
+            (is_caller_of setup (behind setup t caller call) by number moment caller (caller_behind setup t caller call by number moment ∙ is)) (subst (λ pid. low pid < number) (sym of.pid) above)),
         λ x info d. rises_on setup s low t by number moment caller of x info d (by == x) refl (numbers_of x rest) (rises x info d),
       )
 

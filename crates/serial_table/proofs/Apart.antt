@@ -1,6 +1,7 @@
 -- A file's changes leave the other files alone, where these are settled.
-use Rattle.std.proofs.Common.{◌≡◌, ◌==◌, ◌&&◌, not, ℕ, Bool, true, false, cond, List, [], ◌∷◌, ◌++◌, filter, map, Option, None, refl, sym, ap, ◌∙◌}
+use Rattle.std.proofs.Common.{◌≡◌, ◌==◌, ◌&&◌, ◌||◌, not, ℕ, Bool, true, false, cond, List, [], ◌∷◌, ◌++◌, filter, map, Option, None, refl, sym, ap, ◌∙◌, eq-eqb}
 use Rattle.std.proofs.lemmas.Bool.{eqb-true, and_parts, and_left, not_from_false, false_from_ne_true, both_ways}
+use Rattle.std.proofs.Math.Bool.{and-true}
 use Rattle.sid_core.specs.declared.ids.LeaseName.{LeaseName}
 use Rattle.sid_core.specs.declared.bits.LeaseState.{LeaseState}
 use Rattle.sid_core.specs.Ids.{same_name, same_id}
@@ -46,6 +47,14 @@ leases_apart f g name held breaking d ls =
     filter-map (is_lease_of g) (set_lease f name held breaking) (λ l. ap (λ x. x == g) (file-set_lease f name held breaking l)) ls
     ∙ map_left_alone (is_lease_of g) (set_lease f name held breaking) (set_lease-apart f g name held breaking d) ls
 
+-- another file is to go as before
+pub pending_apart : (f g h : ℕ) (t : Table) → (f == g) ≡ false → (h == f) ≡ true → (view (perform (c.AddPending h) t)).is_pending g ≡ (view t).is_pending g
+pending_apart f g h t d e = ap (λ v. v.is_pending g) (view-perform (c.AddPending h) t) ∙ ap (λ b. b || (view t).is_pending g) (not_of h g g (of_other f g h d e) (eq-eqb g g refl))
+
+pub unpending_apart : (f g h : ℕ) (t : Table) → (f == g) ≡ false → (h == f) ≡ true → (view (perform (c.DropPending h) t)).is_pending g ≡ (view t).is_pending g
+unpending_apart f g h t d e =
+    ap (λ v. v.is_pending g) (view-perform (c.DropPending h) t) ∙ ap (λ b. (view t).is_pending g && not b) (not_of h g g (of_other f g h d e) (eq-eqb g g refl)) ∙ and-true ((view t).is_pending g)
+
 -- ---- one change
 
 pub file_view-beside : (f g : ℕ) (change : Change) (t : Table) → (f == g) ≡ false → is_in (lives (view t)) f change ≡ true → settle_file (file_view g (view t)) ≡ file_view g (view t)
@@ -77,6 +86,8 @@ file_view-beside f g (c.Acknowledge h name state) t d e s = λ i. record (file_v
 file_view-beside f g (c.AddRange range) t d e s = λ i. record (file_view g (view t)) { ranges = filter_one_out (is_range_of g) range t.ranges (of_other f g range.file d e) i }
 file_view-beside f g (c.DropRange range) t d e s =
     λ i. record (file_view g (view t)) { ranges = filter_dropped_out (same_range range) (is_range_of g) (λ r h. same_file range g r h ∙ of_other f g range.file d e) t.ranges i }
+file_view-beside f g (c.AddPending h) t d e s = λ i. record (file_view g (view t)) { pending = pending_apart f g h t d e i }
+file_view-beside f g (c.DropPending h) t d e s = λ i. record (file_view g (view t)) { pending = unpending_apart f g h t d e i }
 file_view-beside f g (c.DropWaiter sid call) t d e s = file_view-without g sid call t
 file_view-beside f g c.Settle t d e s = file_view-perform g c.Settle t refl ∙ s
 file_view-beside f g (c.TakeOver h id owner handle) t d e s = absurd cc
@@ -101,6 +112,8 @@ beside_settled (c.SetLease h name held breaking) f s = s
 beside_settled (c.Acknowledge h name state) f s = s
 beside_settled (c.AddRange range) f s = s
 beside_settled (c.DropRange range) f s = s
+beside_settled (c.AddPending h) f s = s
+beside_settled (c.DropPending h) f s = s
 beside_settled (c.AddHold hold) f s = s
 beside_settled (c.SetHold key owner mode) f s = s
 beside_settled (c.DropHold key owner) f s = s

@@ -1,11 +1,12 @@
 -- Legal histories keep the table bounded.
 use Rattle.std.proofs.Common.{◌≡◌, ◌==◌, ◌≤◌, ◌<◌, ◌+◌, ◌*◌, ℕ, zero, suc, Bool, true, false, cond, not, ◌&&◌, List, [], ◌∷◌, ◌++◌, length, filter, map, Option, Some, None, refl, ap, ◌∙◌, subst, inl, inr, arith}
 use Rattle.std.specs.Prelude.{IfSome, slice_get}
-use Rattle.std.specs.List.{IsDistinct, list_any, sum_by}
-use Rattle.std.proofs.lemmas.Bool.{both_ways, cond_both, and_from, eq-eqb}
+use Rattle.std.specs.List.{IsDistinct, list_any, list_all, sum_by}
+use Rattle.std.proofs.lemmas.Bool.{both_ways, cond_both, and_parts, and_from, eq-eqb, eqb-true}
 use Rattle.std.proofs.lemmas.List.{length-map}
 use Rattle.std.proofs.lemmas.List.Sums.{sum_by-cons, sum_by-append, sum_by-le}
 use Rattle.std.proofs.lemmas.Option.{IfSome_then}
+use Rattle.sid_core.specs.declared.call.Call.{Call}
 use Rattle.sid_core.specs.declared.ids.Sid.{Sid}
 use Rattle.sid_core.specs.declared.ids.Moment.{Moment}
 use Rattle.sid_core.specs.declared.entry.Entry.{Entry}
@@ -21,13 +22,16 @@ use Rattle.serial_table.specs.declared.change.Change.{Change}
 use Rattle.serial_table.specs.declared.change.Change.TheVariants as c
 use Rattle.serial_table.specs.declared.decision.Caller.{Caller}
 use Rattle.serial_table.specs.declared.decision.Decision.{Decision}
-use Rattle.serial_table.specs.View.{View, view, is_of_handle}
-use Rattle.serial_table.specs.Settle.{settle_where, row_stays, range_stays, lease_settles, lease_stays}
+use Rattle.serial_table.specs.View.{View, view, is_of_handle, names_file}
+use Rattle.serial_table.specs.Settle.{settle_where, row_stays, range_stays, lease_settles, lease_stays, pending_stays}
 use Rattle.serial_table.specs.Wake.{wake}
-use Rattle.serial_table.specs.Change.{perform, perform_all, is_other_open, is_other_range, new_owner, set_lease, same_range, is_hold, set_hold, outlives, range_outlives, end_session, begin_session, end_at}
+use Rattle.serial_table.specs.Change.{perform, perform_all, is_other_open, is_other_range, new_owner, set_lease, same_range, is_hold, set_hold, with_pending, outlives, range_outlives, end_session, begin_session, end_at}
 use Rattle.serial_table.specs.Decision.{waits_no_more, waits_now, settling, finishing, woken_by, conclude}
 use Rattle.serial_table.specs.Session.{end_of_session}
 use Rattle.serial_table.specs.Decide.{decide}
+use Rattle.serial_table.specs.Expire.{expired_by}
+use Rattle.serial_table.proofs.Expiring.{behind, expired_all}
+use Rattle.serial_table.proofs.ExpiringFits.{expired_fits, expired_bits}
 use Rattle.serial_table.specs.Step.{declared_at}
 use Rattle.serial_table.specs.History.{start, start_workers, after, IsLegal}
 use Rattle.serial_table.specs.Sound.{IsConsistent, Fits, AllFit}
@@ -35,16 +39,16 @@ use Rattle.serial_table.specs.Bounded.{IsSession, IsBounded}
 use Rattle.serial_table.proofs.Members.{IsIn, all_by, some_same}
 use Rattle.serial_table.proofs.Living.{row_of}
 use Rattle.serial_table.proofs.Counting.{length_filtered, length_pushed, length_dropped, sum_more, sum_mapped}
-use Rattle.serial_table.proofs.Waits.{waits_of, concluded_waits, ending_waits, grows}
+use Rattle.serial_table.proofs.Waits.{waits_of, adds_waits, waits-perform, concluded_waits, ending_waits, grows}
 use Rattle.serial_table.proofs.Losing.{to_lose, adds_bits, concluded_leases}
 use Rattle.serial_table.proofs.Callers.{IsCallerOf}
 use Rattle.serial_table.proofs.Numbered.{IsSessionUpTo}
 use Rattle.serial_table.proofs.EndingSessions.{death_fits}
 use Rattle.serial_table.proofs.Owing.{brings, begins, DecisionAdds, no_more_to_lose}
-use Rattle.serial_table.proofs.Along.{raise, raised_more, raised_own, KeptByCalls, KeptByDeaths, along_history}
-use Rattle.serial_table.proofs.Soundness.{IsReached, call_holds, call_fits, dying_fits, calls_reach, deaths_reach, start_reached}
+use Rattle.serial_table.proofs.Along.{raise, raised_more, raised_own, KeptByExpiry, KeptByCalls, KeptByDeaths, along_history}
+use Rattle.serial_table.proofs.Soundness.{IsReached, call_holds, call_fits, dying_fits, expiries_reach, calls_reach, deaths_reach, start_reached}
 
--- ---- rows of opens, leases, ranges and holds
+-- ---- rows of opens, leases, ranges and holds, and files that are to go
 
 opens-perform : (change : Change) (t : Table) → length (perform change t).opens ≤ length t.opens + brings change
 unfolding settle_where
@@ -92,7 +96,17 @@ holds-perform (c.TakeOver file id owner handle) t =
 holds-perform (c.EndSession sid moment) t = omega (arith, length_filtered (λ hold. not (same_sid hold.owner sid)) t.holds)
 holds-perform _ t = omega arith
 
--- ---- workers and files that are to go
+pending-perform : (change : Change) (t : Table) → length (perform change t).pending ≤ length t.pending + brings change
+unfolding settle_where with_pending
+pending-perform (c.AddPending file) t =
+    cond_both (list_any (names_file file) t.pending) t.pending (t.pending ++ file ∷ []) (λ (files : List ℕ). length files ≤ length t.pending + 1) (λ _. omega arith) (λ _. omega (arith, length_pushed t.pending file))
+pending-perform (c.DropPending file) t = omega (arith, length_filtered (λ pending. not (names_file file pending)) t.pending)
+pending-perform (c.TakeOver file id owner handle) t =
+    cond_both (list_any (is_of_handle owner handle) t.opens) t (record t { opens = map (new_owner file id owner handle) t.opens }) (λ (u : Table). length u.pending ≤ length t.pending + 0) (λ _. omega arith) (λ _. omega arith)
+pending-perform c.Settle t = omega (arith, length_filtered (pending_stays (λ file. true) (view t)) t.pending)
+pending-perform _ t = omega arith
+
+-- ---- workers
 
 pub worker_count-perform : (change : Change) (t : Table) → length (perform change t).workers ≡ length t.workers
 unfolding settle_where
@@ -105,16 +119,6 @@ worker_count-perform _ t = refl
 worker_count-perform_all : (cs : List Change) (t : Table) → length (perform_all cs t).workers ≡ length t.workers
 worker_count-perform_all [] t = refl
 worker_count-perform_all (change ∷ cs) t = worker_count-perform_all cs (perform change t) ∙ worker_count-perform change t
-
-pending-perform : (change : Change) (t : Table) → (perform change t).pending ≡ t.pending
-unfolding settle_where
-pending-perform (c.TakeOver file id owner handle) t =
-    cond_both (list_any (is_of_handle owner handle) t.opens) t (record t { opens = map (new_owner file id owner handle) t.opens }) (λ (u : Table). u.pending ≡ t.pending) (λ _. refl) (λ _. refl)
-pending-perform _ t = refl
-
-pending-perform_all : (cs : List Change) (t : Table) → (perform_all cs t).pending ≡ t.pending
-pending-perform_all [] t = refl
-pending-perform_all (change ∷ cs) t = pending-perform_all cs (perform change t) ∙ pending-perform change t
 
 -- ---- ended sessions, with the workers that live
 
@@ -236,7 +240,7 @@ record IsSmall (setup : Setup) (low : ℕ → ℕ) (t : Table) : Type 0 where
   waits : waits_of t + to_lose t.leases ≤ 4 * total setup low
   ended : ended_and_living t ≤ 64 + 64 * total setup low
   workers : length t.workers ≤ 64
-  pending : t.pending ≡ []
+  pending : length t.pending ≤ 2 * total setup low
 
 declared_in : (infos : List WorkerInfo) (place : ℕ) (info : WorkerInfo) → slice_get infos place ≡ Some info → IsIn info infos
 declared_in [] place info e = absurd cc
@@ -272,7 +276,7 @@ small_after setup low high t d n adds more fit small =
       waits = omega (arith, concluded_waits t d adds.spots, ap to_lose (concluded_leases t d), adds.waits, small.waits);
       ended = omega (arith, ended-perform_all cs t small.workers fit, small.ended);
       workers = omega (arith, worker_count-perform_all cs t, small.workers);
-      pending = pending-perform_all cs t ∙ small.pending;
+      pending = omega (arith, grows (λ u. length u.pending) brings pending-perform cs t, small.pending);
     }
 
 -- a death
@@ -305,11 +309,42 @@ record IsCounted (setup : Setup) (low : ℕ → ℕ) (t : Table) : Type 0 where
   reached : IsReached low t
   small : IsSmall setup low t
 
+sum_zero : (adds : Change → ℕ) (cs : List Change) → list_all (λ change. adds change == 0) cs ≡ true → sum_by adds cs ≡ 0
+sum_zero adds [] e = refl
+sum_zero adds (change ∷ cs) e =
+    let all = and_parts (adds change == 0) (list_all (λ change. adds change == 0) cs) e in
+    let here : adds change ≡ 0 = eqb-true (adds change) 0 all.0 in
+    omega (arith, sum_by-cons adds change cs, sum_zero adds cs all.1)
+
+-- what expires adds nothing, and takes bits from leases, if anything
+expired_small : (setup : Setup) (low : ℕ → ℕ) (t : Table) (caller : Caller) (call : Call) → IsConsistent t → IsSmall setup low t → IsSmall setup low (behind setup t caller call)
+expired_small setup low t caller call k small =
+    let cs : List Change = expired_by setup (view t) caller call in
+    let rows : sum_by brings cs ≡ 0 = sum_zero brings cs (expired_all (λ change. brings change == 0) (λ l. refl) refl setup (view t) caller call) in
+    let sessions : sum_by begins cs ≡ 0 = sum_zero begins cs (expired_all (λ change. begins change == 0) (λ l. refl) refl setup (view t) caller call) in
+    let waits : sum_by adds_waits cs ≡ 0 = sum_zero adds_waits cs (expired_all (λ change. adds_waits change == 0) (λ l. refl) refl setup (view t) caller call) in
+    record {
+      opens = omega (arith, grows (λ u. length u.opens) brings opens-perform cs t, small.opens);
+      leases = omega (arith, grows (λ u. length u.leases) brings leases-perform cs t, small.leases);
+      ranges = omega (arith, grows (λ u. length u.ranges) brings ranges-perform cs t, small.ranges);
+      holds = omega (arith, grows (λ u. length u.holds) brings holds-perform cs t, small.holds);
+      waits = omega (arith, grows waits_of adds_waits waits-perform cs t, expired_bits setup t caller call k, small.waits);
+      ended = omega (arith, ended-perform_all cs t small.workers (expired_fits setup t caller call k), small.ended);
+      workers = omega (arith, worker_count-perform_all cs t, small.workers);
+      pending = omega (arith, grows (λ u. length u.pending) brings pending-perform cs t, small.pending);
+    }
+
+expiries_count : (setup : Setup) → KeptByExpiry setup (IsCounted setup)
+expiries_count setup low t caller call k = record {
+  reached = expiries_reach setup low t caller call k.reached;
+  small = expired_small setup low t caller call k.reached.consistent k.small;
+}
+
 calls_count : (setup : Setup) → KeptByCalls setup (IsCounted setup)
-calls_count setup low t by number moment call reply caller k legal of above = record {
-  reached = calls_reach setup low t by number moment call reply caller k.reached legal of above;
-  small = small_after setup low (raise low caller.sid.pid number) t (decide setup (view t) caller call) 1 (call_holds setup low t by number moment call reply caller k.reached legal of above).adds (total_more setup low t by number moment caller of above)
-      (call_fits setup low t by number moment call reply caller k.reached legal of above) k.small;
+calls_count setup low t by number moment call caller k legal of above = record {
+  reached = calls_reach setup low t by number moment call caller k.reached legal of above;
+  small = small_after setup low (raise low caller.sid.pid number) t (decide setup (view t) caller call) 1 (call_holds setup low t by number moment call caller k.reached legal of above).adds (total_more setup low t by number moment caller of above)
+      (call_fits setup low t by number moment call caller k.reached legal of above) k.small;
 }
 
 deaths_count : (setup : Setup) → KeptByDeaths setup (IsCounted setup)
@@ -337,7 +372,7 @@ start_counted setup s =
         waits = omega arith;
         ended = omega (arith, length_filtered (λ (w : WorkerRow). w.alive) (start setup).workers);
         workers = few;
-        pending = refl;
+        pending = omega arith;
       };
     }
 
@@ -356,7 +391,7 @@ counted_is_bounded setup low t s k =
       letters = omega (arith, k.small.waits);
       workers = omega (arith, k.small.workers);
       ended = omega (arith, k.small.ended);
-      pending = omega (arith, ap length k.small.pending);
+      pending = omega (arith, k.small.pending);
       sessions = all_by (λ worker. IsSession worker.session) t.workers (λ w i. let l : low w.pid ≤ 20000 = k.reached.few w.pid in let up : w.session ≤ low w.pid + 1 = n.workers w i in omega arith);
       ended_sessions = all_by (λ row. IsSession row.sid.session) t.ended (λ row i. session row.sid (n.ended row i));
       owners = all_by (λ o. IsSession o.owner.session) t.opens (λ o i. session o.owner (n.opens o i).owner);
@@ -368,5 +403,5 @@ counted_is_bounded setup low t s k =
 
 pub legal_is_bounded : (setup : Setup) (history : List Entry) → IsSetup setup → IsLegal setup history → IsBounded (after setup history)
 legal_is_bounded setup history s legal =
-    let counted = along_history setup s (IsCounted setup) (calls_count setup) (deaths_count setup) (λ pid. 0) (start setup) history (start_counted setup s) legal.entries (λ worker info d. legal.rising worker) in
+    let counted = along_history setup s (IsCounted setup) (expiries_count setup) (calls_count setup) (deaths_count setup) (λ pid. 0) (start setup) history (start_counted setup s) legal.entries (λ worker info d. legal.rising worker) in
     counted_is_bounded setup counted.0 (after setup history) s counted.1

@@ -9,6 +9,7 @@ use Rattle.sid_core.specs.declared.ids.Sid.{Sid}
 use Rattle.sid_core.specs.declared.ids.LeaseName.{LeaseName}
 use Rattle.sid_core.specs.declared.entry.Post.{Post}
 use Rattle.sid_core.specs.Values.{is_state, is_part_of}
+use Rattle.sid_core.specs.declared.ids.Moment.{Moment}
 use Rattle.serial_table.specs.declared.rows.OpenRow.{OpenRow}
 use Rattle.serial_table.specs.declared.rows.LeaseRow.{LeaseRow}
 use Rattle.serial_table.specs.declared.rows.Breaking.{Breaking}
@@ -52,7 +53,7 @@ both_fit file alive a b fa fb = record {
 
 -- ---- one lease
 
-module _ (file : ℕ) (alive : Sid → Bool) (kept : ℕ) (kept_is : is_state kept ≡ true) where
+module _ (now : Moment) (file : ℕ) (alive : Sid → Bool) (kept : ℕ) (kept_is : is_state kept ≡ true) where
   own_file : (file == file) ≡ true
   own_file = eq-eqb file file refl
 
@@ -60,7 +61,7 @@ module _ (file : ℕ) (alive : Sid → Bool) (kept : ℕ) (kept_is : is_state ke
   one_post to post other live e (inl h) = ap (λ (p : Post). alive p.to) (sym h) ∙ ap alive e ∙ live
   one_post to post other live e (inr i) = absurd i
 
-  begins_well : (held : ℕ) → is_state held ≡ true → is_part_of held kept ≡ false → states_agree held (Some (new_breaking (bit_and held kept))) ≡ true
+  begins_well : (held : ℕ) → is_state held ≡ true → is_part_of held kept ≡ false → states_agree held (Some (new_breaking now (bit_and held kept))) ≡ true
   begins_well held h less =
       let target = bit_and held kept in
       let state = state_and held kept h kept_is in
@@ -68,7 +69,7 @@ module _ (file : ℕ) (alive : Sid → Bool) (kept : ℕ) (kept_is : is_state ke
       (and_from (is_part_of target held) (not (target == held)) (part_and held kept h kept_is) (less_and held kept h kept_is less)))))
 
   to_fits : (connected : List OpenRow) (l : LeaseRow) → ((row : OpenRow) → IsIn row connected → alive row.owner ≡ true) → is_state l.held.0 ≡ true → is_part_of l.held.0 kept ≡ false
-      → BreaksFit file alive (breaks_to file connected l (bit_and l.held.0 kept))
+      → BreaksFit file alive (breaks_to now file connected l (bit_and l.held.0 kept))
   to_fits [] l living h less = record {
     inside = ap (λ b. b && true) own_file;
     fits = λ t. (ap (λ b. b && true) (state_and l.held.0 kept h kept_is), (tt, tt));
@@ -77,7 +78,7 @@ module _ (file : ℕ) (alive : Sid → Bool) (kept : ℕ) (kept_is : is_state ke
   }
   to_fits (first ∷ others) l living h less =
       let live = living first (inl refl) in
-      cond_both (l.held.0 == 1) (breaks_read file first.owner l (bit_and l.held.0 kept)) (begins_to_break file first.owner l (bit_and l.held.0 kept)) (BreaksFit file alive)
+      cond_both (l.held.0 == 1) (breaks_read file first.owner l (bit_and l.held.0 kept)) (begins_to_break now file first.owner l (bit_and l.held.0 kept)) (BreaksFit file alive)
       (λ _. record {
         inside = ap (λ b. b && true) own_file;
         fits = λ t. (ap (λ b. b && true) (state_and l.held.0 kept h kept_is), tt);
@@ -115,32 +116,32 @@ module _ (file : ℕ) (alive : Sid → Bool) (kept : ℕ) (kept_is : is_state ke
       }
 
   break_fits : (connected : List OpenRow) (l : LeaseRow) (breaking : Option Breaking) → ((row : OpenRow) → IsIn row connected → alive row.owner ≡ true) → states_agree l.held.0 breaking ≡ true
-      → BreaksFit file alive (break_by file connected kept l breaking)
+      → BreaksFit file alive (break_by now file connected kept l breaking)
   break_fits connected l (Some b) living e = further_fits connected l b living e
   break_fits connected l None living e =
-      cond_both (is_part_of l.held.0 kept) no_break (breaks_to file connected l (bit_and l.held.0 kept)) (BreaksFit file alive) (λ _. no_break_fits file alive)
+      cond_both (is_part_of l.held.0 kept) no_break (breaks_to now file connected l (bit_and l.held.0 kept)) (BreaksFit file alive) (λ _. no_break_fits file alive)
       (λ less. to_fits connected l living (and_parts (is_state l.held.0) true e).0 less)
 
   pub lease_fits : (f : FileView) (l : LeaseRow) → ((row : OpenRow) → IsIn row (connected_under f l.name) → alive row.owner ≡ true) → states_agree l.held.0 l.breaking ≡ true
-      → BreaksFit file alive (break_lease file f kept l)
+      → BreaksFit file alive (break_lease now file f kept l)
   unfolding break_lease
   lease_fits f l living e = break_fits (connected_under f l.name) l l.breaking living e
 
 -- ---- leases one after another
 
-module _ (file kept : ℕ) (kept_is : is_state kept ≡ true) where
-  pub first_fits : (f : FileView) (t : Table) → Shows file f t → IsConsistent t → (ls : List LeaseRow) → ((l : LeaseRow) → IsIn l ls → IsIn l t.leases) → BreaksFit file (lives (view t)) (break_first file f kept ls)
+module _ (now : Moment) (file kept : ℕ) (kept_is : is_state kept ≡ true) where
+  pub first_fits : (f : FileView) (t : Table) → Shows file f t → IsConsistent t → (ls : List LeaseRow) → ((l : LeaseRow) → IsIn l ls → IsIn l t.leases) → BreaksFit file (lives (view t)) (break_first now file f kept ls)
   first_fits f t s k [] there = no_break_fits file (lives (view t))
   first_fits f t s k (l ∷ ls) there =
-      lease_fits file (lives (view t)) kept kept_is f l (λ row i. (shown_open file f t s l.name row i).1) (each (λ l. states_agree l.held.0 l.breaking) t.leases k.leases_agree l (there l (inl refl)))
+      lease_fits now file (lives (view t)) kept kept_is f l (λ row i. (shown_open file f t s l.name row i).1) (each (λ l. states_agree l.held.0 l.breaking) t.leases k.leases_agree l (there l (inl refl)))
 
-  pub each_fits : (names : List LeaseName) (f : FileView) (t : Table) → Shows file f t → IsConsistent t → BreaksFit file (lives (view t)) (break_each file f kept names)
+  pub each_fits : (names : List LeaseName) (f : FileView) (t : Table) → Shows file f t → IsConsistent t → BreaksFit file (lives (view t)) (break_each now file f kept names)
   unfolding break_each
   each_fits [] f t s k = no_break_fits file (lives (view t))
   each_fits (name ∷ names) f t s k =
-      let first = break_first file f kept (f.leases name) in
+      let first = break_first now file f kept (f.leases name) in
       let a = first_fits f t s k (f.leases name) (λ l i. (shown_lease file f t s name l i).0) in
       let u = perform_all first.changes t in
       let later = each_fits names (perform_all_in_file first.changes f) u (shows-perform_all file first.changes f t a.inside s) (consistent-perform_all first.changes t k (a.fits t)) in
-      both_fit file (lives (view t)) first (break_each file (perform_all_in_file first.changes f) kept names) a
-      (subst (λ alive. BreaksFit file alive (break_each file (perform_all_in_file first.changes f) kept names)) (lives-breaks file first.changes t a.inside) later)
+      both_fit file (lives (view t)) first (break_each now file (perform_all_in_file first.changes f) kept names) a
+      (subst (λ alive. BreaksFit file alive (break_each now file (perform_all_in_file first.changes f) kept names)) (lives-breaks file first.changes t a.inside) later)

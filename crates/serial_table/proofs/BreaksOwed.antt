@@ -10,6 +10,7 @@ use Rattle.sid_core.specs.declared.ids.LeaseName.{LeaseName}
 use Rattle.sid_core.specs.declared.setup.Setup.{Setup}
 use Rattle.sid_core.specs.Ids.{same_sid, same_spot}
 use Rattle.sid_core.specs.Values.{is_state}
+use Rattle.sid_core.specs.declared.ids.Moment.{Moment}
 use Rattle.serial_table.specs.declared.rows.OpenRow.{OpenRow}
 use Rattle.serial_table.specs.declared.rows.LeaseRow.{LeaseRow}
 use Rattle.serial_table.specs.declared.rows.RangeRow.{RangeRow}
@@ -89,30 +90,30 @@ module _ (p : Change → Bool) (h : PassesRows p) where
   pub own_pass : (caller : Caller) (watches : List Watch) (d : Decision) → list_all p d.changes ≡ true → list_all p (no_longer_waits caller watches d).changes ≡ true
   own_pass caller watches d e = both_pass (own_waits_end caller watches) d.changes (no_more_all p h.finishing (filter (λ (watch : Watch). same_sid watch.sid caller.sid) watches)) e
 
-  to_passes : (file : ℕ) (connected : List OpenRow) (l : LeaseRow) (target : ℕ) → list_all p (breaks_to file connected l target).changes ≡ true
-  to_passes file [] l target = one_passes _ (c.Settle ∷ []) (h.set _ _ _ _) (one_passes c.Settle [] h.settled refl)
-  to_passes file (first ∷ others) l target =
-      cond_both (l.held.0 == 1) (breaks_read file first.owner l target) (begins_to_break file first.owner l target) (λ (b : Breaks). list_all p b.changes ≡ true) (λ _. one_passes _ [] (h.set _ _ _ _) refl)
+  to_passes : (now : Moment) (file : ℕ) (connected : List OpenRow) (l : LeaseRow) (target : ℕ) → list_all p (breaks_to now file connected l target).changes ≡ true
+  to_passes now file [] l target = one_passes _ (c.Settle ∷ []) (h.set _ _ _ _) (one_passes c.Settle [] h.settled refl)
+  to_passes now file (first ∷ others) l target =
+      cond_both (l.held.0 == 1) (breaks_read file first.owner l target) (begins_to_break now file first.owner l target) (λ (b : Breaks). list_all p b.changes ≡ true) (λ _. one_passes _ [] (h.set _ _ _ _) refl)
       (λ _. one_passes _ [] (h.set _ _ _ _) refl)
 
-  by_passes : (file : ℕ) (connected : List OpenRow) (kept : ℕ) (l : LeaseRow) (breaking : Option Breaking) → list_all p (break_by file connected kept l breaking).changes ≡ true
-  by_passes file connected kept l (Some b) = one_passes _ [] (h.set _ _ _ _) refl
-  by_passes file connected kept l None = cond_both _ no_break (breaks_to file connected l _) (λ (b : Breaks). list_all p b.changes ≡ true) (λ _. refl) (λ _. to_passes file connected l _)
+  by_passes : (now : Moment) (file : ℕ) (connected : List OpenRow) (kept : ℕ) (l : LeaseRow) (breaking : Option Breaking) → list_all p (break_by now file connected kept l breaking).changes ≡ true
+  by_passes now file connected kept l (Some b) = one_passes _ [] (h.set _ _ _ _) refl
+  by_passes now file connected kept l None = cond_both _ no_break (breaks_to now file connected l _) (λ (b : Breaks). list_all p b.changes ≡ true) (λ _. refl) (λ _. to_passes now file connected l _)
 
-  pub lease_passes : (file : ℕ) (f : FileView) (kept : ℕ) (l : LeaseRow) → list_all p (break_lease file f kept l).changes ≡ true
+  pub lease_passes : (now : Moment) (file : ℕ) (f : FileView) (kept : ℕ) (l : LeaseRow) → list_all p (break_lease now file f kept l).changes ≡ true
   unfolding break_lease
-  lease_passes file f kept l = by_passes file (connected_under f l.name) kept l l.breaking
+  lease_passes now file f kept l = by_passes now file (connected_under f l.name) kept l l.breaking
 
-  first_passes : (file : ℕ) (f : FileView) (kept : ℕ) (ls : List LeaseRow) → list_all p (break_first file f kept ls).changes ≡ true
-  first_passes file f kept [] = refl
-  first_passes file f kept (l ∷ ls) = lease_passes file f kept l
+  first_passes : (now : Moment) (file : ℕ) (f : FileView) (kept : ℕ) (ls : List LeaseRow) → list_all p (break_first now file f kept ls).changes ≡ true
+  first_passes now file f kept [] = refl
+  first_passes now file f kept (l ∷ ls) = lease_passes now file f kept l
 
-  pub each_passes : (file : ℕ) (f : FileView) (kept : ℕ) (names : List LeaseName) → list_all p (break_each file f kept names).changes ≡ true
+  pub each_passes : (now : Moment) (file : ℕ) (f : FileView) (kept : ℕ) (names : List LeaseName) → list_all p (break_each now file f kept names).changes ≡ true
   unfolding break_each
-  each_passes file f kept [] = refl
-  each_passes file f kept (name ∷ names) =
-      let first = break_first file f kept (f.leases name) in
-      both_pass first.changes _ (first_passes file f kept (f.leases name)) (each_passes file (perform_all_in_file first.changes f) kept names)
+  each_passes now file f kept [] = refl
+  each_passes now file f kept (name ∷ names) =
+      let first = break_first now file f kept (f.leases name) in
+      both_pass first.changes _ (first_passes now file f kept (f.leases name)) (each_passes now file (perform_all_in_file first.changes f) kept names)
 
 -- ---- changes of rows alone: who waits and who lives stay
 
@@ -137,6 +138,8 @@ by_row P opened leased set acknowledged ranged settled c.Settle e = settled
 by_row P opened leased set acknowledged ranged settled (c.DropOpen file id) e = absurd cc
 by_row P opened leased set acknowledged ranged settled (c.TakeOver file id owner handle) e = absurd cc
 by_row P opened leased set acknowledged ranged settled (c.DropRange range) e = absurd cc
+by_row P opened leased set acknowledged ranged settled (c.AddPending file) e = absurd cc
+by_row P opened leased set acknowledged ranged settled (c.DropPending file) e = absurd cc
 by_row P opened leased set acknowledged ranged settled (c.AddHold hold) e = absurd cc
 by_row P opened leased set acknowledged ranged settled (c.SetHold key owner mode) e = absurd cc
 by_row P opened leased set acknowledged ranged settled (c.DropHold key owner) e = absurd cc
@@ -190,8 +193,8 @@ pub record BreaksHold (file : ℕ) (t : Table) (b : Breaks) : Type 0 where
   pub fit : BreaksFit file (lives (view t)) b
   pub lose : Loses t b
 
-pub each_hold : (file kept : ℕ) → is_state kept ≡ true → (names : List LeaseName) (f : FileView) (t : Table) → Shows file f t → IsConsistent t → BreaksHold file t (break_each file f kept names)
-each_hold file kept kept_is names f t s k = record { fit = each_fits file kept kept_is names f t s k; lose = each_loses file kept kept_is names f t s k }
+pub each_hold : (now : Moment) (file kept : ℕ) → is_state kept ≡ true → (names : List LeaseName) (f : FileView) (t : Table) → Shows file f t → IsConsistent t → BreaksHold file t (break_each now file f kept names)
+each_hold now file kept kept_is names f t s k = record { fit = each_fits now file kept kept_is names f t s k; lose = each_loses now file kept kept_is names f t s k }
 
 pub both_hold : (file : ℕ) (t : Table) (a b : Breaks) → BreaksHold file t a → BreaksHold file (perform_all a.changes t) b → BreaksHold file t (both a b)
 both_hold file t a b ha hb = record {

@@ -3,6 +3,7 @@ use Rattle.std.proofs.Common.{◌≡◌, not, ℕ, false, List, [], ◌∷◌, f
 use Rattle.std.specs.Option.{option_map_or}
 use Rattle.sid_core.specs.declared.ids.LeaseName.{LeaseName}
 use Rattle.sid_core.specs.Ids.{same_name}
+use Rattle.sid_core.specs.declared.ids.Moment.{Moment}
 use Rattle.serial_table.specs.declared.rows.LeaseRow.{LeaseRow}
 use Rattle.serial_table.specs.declared.table.Table.{Table}
 use Rattle.serial_table.specs.declared.change.Change.{Change}
@@ -27,6 +28,8 @@ seen-perform (c.SetLease file name held breaking) f = refl
 seen-perform (c.Acknowledge file name state) f = refl
 seen-perform (c.AddRange range) f = refl
 seen-perform (c.DropRange range) f = refl
+seen-perform (c.AddPending file) f = refl
+seen-perform (c.DropPending file) f = refl
 seen-perform (c.AddHold hold) f = refl
 seen-perform (c.SetHold key owner mode) f = refl
 seen-perform (c.DropHold key owner) f = refl
@@ -44,25 +47,25 @@ seen-perform_all (change ∷ changes) f g e =
     seen-perform_all changes (perform_in_file change f) (perform_in_file change g)
     (sym (seen-perform change f) ∙ ap (λ (h : FileView). opens_and_leases (perform_in_file change h)) e ∙ seen-perform change g)
 
-seen-break_first : (file kept : ℕ) (f : FileView) (leases : List LeaseRow) → break_first file (opens_and_leases f) kept leases ≡ break_first file f kept leases
+seen-break_first : (now : Moment) (file kept : ℕ) (f : FileView) (leases : List LeaseRow) → break_first now file (opens_and_leases f) kept leases ≡ break_first now file f kept leases
 unfolding break_lease
-seen-break_first file kept f [] = refl
-seen-break_first file kept f (lease ∷ leases) = refl
+seen-break_first now file kept f [] = refl
+seen-break_first now file kept f (lease ∷ leases) = refl
 
-pub seen-break_each : (file kept : ℕ) (names : List LeaseName) (f g : FileView) → opens_and_leases f ≡ opens_and_leases g → break_each file f kept names ≡ break_each file g kept names
+pub seen-break_each : (now : Moment) (file kept : ℕ) (names : List LeaseName) (f g : FileView) → opens_and_leases f ≡ opens_and_leases g → break_each now file f kept names ≡ break_each now file g kept names
 unfolding break_each
-seen-break_each file kept [] f g e = refl
-seen-break_each file kept (name ∷ names) f g e =
-    let first : break_first file f kept (f.leases name) ≡ break_first file g kept (g.leases name) =
-    sym (seen-break_first file kept f (f.leases name)) ∙ ap (λ (h : FileView). break_first file h kept (h.leases name)) e ∙ seen-break_first file kept g (g.leases name) in
-    let after = seen-perform_all (break_first file f kept (f.leases name)).changes f g e ∙ ap (λ (b : Breaks). opens_and_leases (perform_all_in_file b.changes g)) first in
-    let rest = seen-break_each file kept names (perform_all_in_file (break_first file f kept (f.leases name)).changes f) (perform_all_in_file (break_first file g kept (g.leases name)).changes g) after in
+seen-break_each now file kept [] f g e = refl
+seen-break_each now file kept (name ∷ names) f g e =
+    let first : break_first now file f kept (f.leases name) ≡ break_first now file g kept (g.leases name) =
+    sym (seen-break_first now file kept f (f.leases name)) ∙ ap (λ (h : FileView). break_first now file h kept (h.leases name)) e ∙ seen-break_first now file kept g (g.leases name) in
+    let after = seen-perform_all (break_first now file f kept (f.leases name)).changes f g e ∙ ap (λ (b : Breaks). opens_and_leases (perform_all_in_file b.changes g)) first in
+    let rest = seen-break_each now file kept names (perform_all_in_file (break_first now file f kept (f.leases name)).changes f) (perform_all_in_file (break_first now file g kept (g.leases name)).changes g) after in
     λ i. both (first i) (rest i)
 
-pub seen-break_others : (file kept : ℕ) (own : Option LeaseName) (f g : FileView) → opens_and_leases f ≡ opens_and_leases g → break_others file f kept own ≡ break_others file g kept own
-seen-break_others file kept own f g e =
-    ap (λ (h : FileView). break_each file f kept (filter (λ name. not (option_map_or (same_name name) own false)) (names_of h.opens))) e
-    ∙ seen-break_each file kept (filter (λ name. not (option_map_or (same_name name) own false)) (names_of g.opens)) f g e
+pub seen-break_others : (now : Moment) (file kept : ℕ) (own : Option LeaseName) (f g : FileView) → opens_and_leases f ≡ opens_and_leases g → break_others now file f kept own ≡ break_others now file g kept own
+seen-break_others now file kept own f g e =
+    ap (λ (h : FileView). break_each now file f kept (filter (λ name. not (option_map_or (same_name name) own false)) (names_of h.opens))) e
+    ∙ seen-break_each now file kept (filter (λ name. not (option_map_or (same_name name) own false)) (names_of g.opens)) f g e
 
 alone_leases : (file : ℕ) (t : Table) (name : LeaseName)
     → filter (is_lease_of file) (filter (has_name name) (filter (is_lease_of file) t.leases)) ≡ filter (is_lease_of file) (filter (has_name name) t.leases)
@@ -78,9 +81,10 @@ alone_seen file t = λ i. record {
   ranges = [];
   open_watches = [];
   range_watches = [];
+  pending = false;
 }
 
-pub broken_alone : (file kept : ℕ) (own : Option LeaseName) (t u : Table) → u ≡ alone file t → break_others file (file_view file (view u)) kept own ≡ break_others file (file_view file (view t)) kept own
-broken_alone file kept own t u e =
-    ap (λ (x : Table). break_others file (file_view file (view x)) kept own) e
-    ∙ seen-break_others file kept own (file_view file (view (alone file t))) (file_view file (view t)) (alone_seen file t)
+pub broken_alone : (now : Moment) (file kept : ℕ) (own : Option LeaseName) (t u : Table) → u ≡ alone file t → break_others now file (file_view file (view u)) kept own ≡ break_others now file (file_view file (view t)) kept own
+broken_alone now file kept own t u e =
+    ap (λ (x : Table). break_others now file (file_view file (view x)) kept own) e
+    ∙ seen-break_others now file kept own (file_view file (view (alone file t))) (file_view file (view t)) (alone_seen file t)

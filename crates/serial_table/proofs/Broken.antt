@@ -9,6 +9,7 @@ use Rattle.sid_core.specs.declared.ids.LeaseName.{LeaseName}
 use Rattle.sid_core.specs.Ids.{same_name}
 use Rattle.sid_core.specs.Values.{is_part_of}
 use Rattle.std.specs.Int.RustNames.{bit_and}
+use Rattle.sid_core.specs.declared.ids.Moment.{Moment}
 use Rattle.serial_table.specs.declared.rows.OpenRow.{OpenRow}
 use Rattle.serial_table.specs.declared.rows.LeaseRow.{LeaseRow}
 use Rattle.serial_table.specs.declared.rows.Breaking.{Breaking}
@@ -28,13 +29,13 @@ use Rattle.serial_table.proofs.Heads.{by_first_of_both}
 
 -- ---- one lease, by the owner of its first connected open
 
-to_owner : (file : ℕ) (connected : List OpenRow) (lease : LeaseRow) (target : ℕ) → breaks_to file connected lease target ≡ breaks_of_owner file (first_owner connected) lease target
-to_owner file [] lease target = refl
-to_owner file (first ∷ others) lease target = refl
+to_owner : (now : Moment) (file : ℕ) (connected : List OpenRow) (lease : LeaseRow) (target : ℕ) → breaks_to now file connected lease target ≡ breaks_of_owner now file (first_owner connected) lease target
+to_owner now file [] lease target = refl
+to_owner now file (first ∷ others) lease target = refl
 
-by_owner : (file : ℕ) (connected : List OpenRow) (kept : ℕ) (lease : LeaseRow) (b : Option Breaking) → break_by file connected kept lease b ≡ break_by_owner file (first_owner connected) kept lease b
-by_owner file connected kept lease (Some breaking) = refl
-by_owner file connected kept lease None = ap (cond (is_part_of lease.held.0 kept) no_break) (to_owner file connected lease (bit_and lease.held.0 kept))
+by_owner : (now : Moment) (file : ℕ) (connected : List OpenRow) (kept : ℕ) (lease : LeaseRow) (b : Option Breaking) → break_by now file connected kept lease b ≡ break_by_owner now file (first_owner connected) kept lease b
+by_owner now file connected kept lease (Some breaking) = refl
+by_owner now file connected kept lease None = ap (cond (is_part_of lease.held.0 kept) no_break) (to_owner now file connected lease (bit_and lease.held.0 kept))
 
 module _ (t : Table) (file : ℕ) (name : LeaseName) where
   abbrev seen : OpenRow → FileOpen
@@ -57,18 +58,18 @@ module _ (t : Table) (file : ℕ) (name : LeaseName) where
   first_connected [] = refl
   first_connected (x ∷ xs) = of_file (is_of_file file x) x (filter (is_of_file file) xs) (find (λ o. is_of_file file o && (carries name o.lease && lives (view t) o.owner)) xs) (first_connected xs)
 
-pub break_is : (t : Table) (file : ℕ) (kept : ℕ) (lease : LeaseRow) → break_by_owner file (owner_under t.opens t.workers file lease.name) kept lease lease.breaking ≡ break_lease file (file_view file (view t)) kept lease
+pub break_is : (now : Moment) (t : Table) (file : ℕ) (kept : ℕ) (lease : LeaseRow) → break_by_owner now file (owner_under t.opens t.workers file lease.name) kept lease lease.breaking ≡ break_lease now file (file_view file (view t)) kept lease
 unfolding break_lease
-break_is t file kept lease =
-    ap (λ to. break_by_owner file to kept lease lease.breaking) (sym (first_connected t file lease.name t.opens))
-    ∙ sym (by_owner file (connected_under (file_view file (view t)) lease.name) kept lease lease.breaking)
+break_is now t file kept lease =
+    ap (λ to. break_by_owner now file to kept lease lease.breaking) (sym (first_connected t file lease.name t.opens))
+    ∙ sym (by_owner now file (connected_under (file_view file (view t)) lease.name) kept lease lease.breaking)
 
 -- the first lease of the name, or none
-pub break_named-is : (t : Table) (file : ℕ) (kept : ℕ) (name : LeaseName)
-    → break_named file (file_view file (view t)) kept name ≡ option_map_or (break_lease file (file_view file (view t)) kept) (find (is_lease_named file name) t.leases) no_break
+pub break_named-is : (now : Moment) (t : Table) (file : ℕ) (kept : ℕ) (name : LeaseName)
+    → break_named now file (file_view file (view t)) kept name ≡ option_map_or (break_lease now file (file_view file (view t)) kept) (find (is_lease_named file name) t.leases) no_break
 unfolding break_named
-break_named-is t file kept name =
-    by_first_of_both (break_first file (file_view file (view t)) kept) (break_lease file (file_view file (view t)) kept) no_break refl (λ l ls. refl) (is_lease_of file) (has_name name) t.leases
+break_named-is now t file kept name =
+    by_first_of_both (break_first now file (file_view file (view t)) kept) (break_lease now file (file_view file (view t)) kept) no_break refl (λ l ls. refl) (is_lease_of file) (has_name name) t.leases
 
 -- ---- what it changes is of the file
 
@@ -108,40 +109,40 @@ pub perform_all_in_file-append : (cs ds : List Change) (f : FileView) → perfor
 perform_all_in_file-append [] ds f = refl
 perform_all_in_file-append (c ∷ cs) ds f = perform_all_in_file-append cs ds (perform_in_file c f)
 
-break_each-next : (file : ℕ) (kept : ℕ) (f : FileView) (name : LeaseName) (names : List LeaseName)
-    → break_each file f kept (name ∷ names) ≡ both (break_named file f kept name) (break_each file (perform_all_in_file (break_named file f kept name).changes f) kept names)
+break_each-next : (now : Moment) (file : ℕ) (kept : ℕ) (f : FileView) (name : LeaseName) (names : List LeaseName)
+    → break_each now file f kept (name ∷ names) ≡ both (break_named now file f kept name) (break_each now file (perform_all_in_file (break_named now file f kept name).changes f) kept names)
 unfolding break_each break_named
-break_each-next file kept f name names = refl
+break_each-next now file kept f name names = refl
 
-break_each-none : (file : ℕ) (kept : ℕ) (f : FileView) → break_each file f kept [] ≡ no_break
+break_each-none : (now : Moment) (file : ℕ) (kept : ℕ) (f : FileView) → break_each now file f kept [] ≡ no_break
 unfolding break_each
-break_each-none file kept f = refl
+break_each-none now file kept f = refl
 
-module _ (file : ℕ) (kept : ℕ) (names : List LeaseName) (i : ℕ) (name : LeaseName) (f g : FileView) where
+module _ (now : Moment) (file : ℕ) (kept : ℕ) (names : List LeaseName) (i : ℕ) (name : LeaseName) (f g : FileView) where
   -- a loop that has broken the first i leases breaks the next
-  pub broken_next : (done next all : Breaks) → i < length names → next ≡ both done (break_named file f kept (get_or names i name)) → g ≡ perform_all_in_file (break_named file f kept (get_or names i name)).changes f
-      → both done (break_each file f kept (drop i names)) ≡ all → both next (break_each file g kept (drop (i + 1) names)) ≡ all
+  pub broken_next : (done next all : Breaks) → i < length names → next ≡ both done (break_named now file f kept (get_or names i name)) → g ≡ perform_all_in_file (break_named now file f kept (get_or names i name)).changes f
+      → both done (break_each now file f kept (drop i names)) ≡ all → both next (break_each now file g kept (drop (i + 1) names)) ≡ all
   broken_next done next all lt more left e =
-      (λ j. both (more j) (break_each file (left j) kept (drop (i + 1) names)))
-      ∙ both-both done (break_named file f kept (get_or names i name)) (break_each file (perform_all_in_file (break_named file f kept (get_or names i name)).changes f) kept (drop (i + 1) names))
-      ∙ ap (both done) (sym (break_each-next file kept f (get_or names i name) (drop (i + 1) names)))
-      ∙ ap (both done) (sym (at_drop_more (break_each file f kept) names i name lt)) ∙ e
+      (λ j. both (more j) (break_each now file (left j) kept (drop (i + 1) names)))
+      ∙ both-both done (break_named now file f kept (get_or names i name)) (break_each now file (perform_all_in_file (break_named now file f kept (get_or names i name)).changes f) kept (drop (i + 1) names))
+      ∙ ap (both done) (sym (break_each-next now file kept f (get_or names i name) (drop (i + 1) names)))
+      ∙ ap (both done) (sym (at_drop_more (break_each now file f kept) names i name lt)) ∙ e
 
-  pub left_next : (all : FileView) → i < length names → g ≡ perform_all_in_file (break_named file f kept (get_or names i name)).changes f
-      → perform_all_in_file (break_each file f kept (drop i names)).changes f ≡ all → perform_all_in_file (break_each file g kept (drop (i + 1) names)).changes g ≡ all
+  pub left_next : (all : FileView) → i < length names → g ≡ perform_all_in_file (break_named now file f kept (get_or names i name)).changes f
+      → perform_all_in_file (break_each now file f kept (drop i names)).changes f ≡ all → perform_all_in_file (break_each now file g kept (drop (i + 1) names)).changes g ≡ all
   left_next all lt left e =
-      (λ j. perform_all_in_file (break_each file (left j) kept (drop (i + 1) names)).changes (left j))
-      ∙ sym (perform_all_in_file-append (break_named file f kept (get_or names i name)).changes
-      (break_each file (perform_all_in_file (break_named file f kept (get_or names i name)).changes f) kept (drop (i + 1) names)).changes f)
-      ∙ ap (λ (b : Breaks). perform_all_in_file b.changes f) (sym (break_each-next file kept f (get_or names i name) (drop (i + 1) names)))
-      ∙ ap (λ (b : Breaks). perform_all_in_file b.changes f) (sym (at_drop_more (break_each file f kept) names i name lt)) ∙ e
+      (λ j. perform_all_in_file (break_each now file (left j) kept (drop (i + 1) names)).changes (left j))
+      ∙ sym (perform_all_in_file-append (break_named now file f kept (get_or names i name)).changes
+      (break_each now file (perform_all_in_file (break_named now file f kept (get_or names i name)).changes f) kept (drop (i + 1) names)).changes f)
+      ∙ ap (λ (b : Breaks). perform_all_in_file b.changes f) (sym (break_each-next now file kept f (get_or names i name) (drop (i + 1) names)))
+      ∙ ap (λ (b : Breaks). perform_all_in_file b.changes f) (sym (at_drop_more (break_each now file f kept) names i name lt)) ∙ e
 
 -- at its end
-pub broken_all : (file : ℕ) (kept : ℕ) (names : List LeaseName) (f : FileView) (done all : Breaks) → names ≡ [] → both done (break_each file f kept names) ≡ all → done ≡ all
-broken_all file kept names f done all z e = sym (both-no_break done) ∙ ap (both done) (sym (ap (break_each file f kept) z ∙ break_each-none file kept f)) ∙ e
+pub broken_all : (now : Moment) (file : ℕ) (kept : ℕ) (names : List LeaseName) (f : FileView) (done all : Breaks) → names ≡ [] → both done (break_each now file f kept names) ≡ all → done ≡ all
+broken_all now file kept names f done all z e = sym (both-no_break done) ∙ ap (both done) (sym (ap (break_each now file f kept) z ∙ break_each-none now file kept f)) ∙ e
 
-pub left_all : (file : ℕ) (kept : ℕ) (names : List LeaseName) (f all : FileView) → names ≡ [] → perform_all_in_file (break_each file f kept names).changes f ≡ all → f ≡ all
-left_all file kept names f all z e = ap (λ (b : Breaks). perform_all_in_file b.changes f) (sym (ap (break_each file f kept) z ∙ break_each-none file kept f)) ∙ e
+pub left_all : (now : Moment) (file : ℕ) (kept : ℕ) (names : List LeaseName) (f all : FileView) → names ≡ [] → perform_all_in_file (break_each now file f kept names).changes f ≡ all → f ≡ all
+left_all now file kept names f all z e = ap (λ (b : Breaks). perform_all_in_file b.changes f) (sym (ap (break_each now file f kept) z ∙ break_each-none now file kept f)) ∙ e
 
 -- ---- which leases
 

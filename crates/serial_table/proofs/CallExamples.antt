@@ -6,6 +6,7 @@ use Rattle.sid_core.specs.declared.entry.Event.TheVariants.{Called, Died, Tidied
 use Rattle.sid_core.specs.declared.ids.Sid.{Sid}
 use Rattle.sid_core.specs.declared.ids.Spot.TheVariants.{OpenOf, RangesOf}
 use Rattle.sid_core.specs.declared.reply.Reply.TheVariants.{Granted, Done, FileClosed, SharingViolation}
+use Rattle.serial_table.specs.Expire.{expired_by}
 use Rattle.serial_table.specs.declared.apply.Apply.{Apply}
 use Rattle.serial_table.specs.declared.apply.Apply.TheVariants as refusals
 use Rattle.serial_table.specs.declared.change.Change.TheVariants as c
@@ -50,13 +51,13 @@ read_alone = record nothing_open {
 }
 
 -- A conflict refuses the call. The caller waits no more for the file's opens, and nothing else changes.
-refused_and_waits_no_more : open_file (view read_alone) caller (asked_of caller 1 (record { 0 = 0x2 }) (record { 0 = 7 }) None 0 false)
+refused_and_waits_no_more : open_file (view read_alone) caller (asked_of caller 1 (record { 0 = 0x2 }) (record { 0 = 7 }) None 0 false false)
     ≡ record { changes = c.DropWaiter them 5 ∷ []; reply = SharingViolation; posts = []; spots = []; waits = None }
 unfolding open_file open_by handle_breaks other_breaks break_each break_lease grant
 refused_and_waits_no_more = refl
 
 -- Without a conflict it is granted: the open has the call's pid and number as its id, the number as its handle, and the call's moment.
-granted_with_its_number : open_file (view read_alone) caller (asked_of caller 1 (record { 0 = 0x20 }) (record { 0 = 1 }) None 0 false) ≡ record {
+granted_with_its_number : open_file (view read_alone) caller (asked_of caller 1 (record { 0 = 0x20 }) (record { 0 = 1 }) None 0 false false) ≡ record {
   changes =
       c.DropWaiter them 5
       ∷ c.AddOpen (record { id = id 102 9; owner = them; handle = 9; file = 1; access = record { 0 = 0x20 }; share = record { 0 = 1 }; lease = None; durable = 0; opened = at 70; marked = false })
@@ -70,20 +71,20 @@ unfolding open_file open_by handle_breaks other_breaks break_each break_lease gr
 granted_with_its_number = refl
 
 -- An open of another file is in nobody's way.
-another_file_is_free : (open_file (view read_alone) caller (asked_of caller 2 (record { 0 = 0x2 }) (record { 0 = 0 }) None 0 false)).reply ≡ Granted None false
+another_file_is_free : (open_file (view read_alone) caller (asked_of caller 2 (record { 0 = 0x2 }) (record { 0 = 0 }) None 0 false false)).reply ≡ Granted None false
 unfolding open_file open_by handle_breaks other_breaks break_each break_lease grant
 another_file_is_free = refl
 
 -- One's own open of the file is in one's way, too.
 own_open_refuses : answer_of setup (view (record nothing_open { opens = record (plain 102 3 4 1) { share = record { 0 = 0 } } ∷ [] })) 2 9 (at 70) (opens 1 0x1 7)
     ≡ Some SharingViolation
-unfolding conclude open_file open_by handle_breaks other_breaks break_each break_lease grant caller_of
+unfolding conclude expired_by open_file open_by handle_breaks other_breaks break_each break_lease grant caller_of
 own_open_refuses = refl
 
 -- A disconnected open is in the way like any other.
 disconnected_open_refuses : answer_of setup (view (record nothing_open { opens = record (plain 102 1 4 1) { share = record { 0 = 0 }; durable = 60 } ∷ [] })) 1 9 (at 70) (opens 1 0x1 7)
     ≡ Some SharingViolation
-unfolding conclude open_file open_by handle_breaks other_breaks break_each break_lease grant caller_of
+unfolding conclude expired_by open_file open_by handle_breaks other_breaks break_each break_lease grant caller_of
 disconnected_open_refuses = refl
 
 -- ---- `close`
@@ -103,27 +104,27 @@ close_wakes : call_of setup (view two_opens) 2 9 (at 70) (Close 4) ≡ Some (rec
   reply = Done;
   posts = wakes us 6 ∷ wakes us 7 ∷ [];
 })
-unfolding conclude close caller_of settle_by_key
+unfolding conclude expired_by close caller_of settle_by_key
 close_wakes = refl
 
 -- A handle that the caller's session hasn't.
 close_finds_nothing : call_of setup (view two_opens) 1 9 (at 70) (Close 5) ≡ Some (record { changes = c.Settle ∷ []; reply = FileClosed; posts = [] })
-unfolding conclude close caller_of settle_by_key
+unfolding conclude expired_by close caller_of settle_by_key
 close_finds_nothing = refl
 
 -- A handle of the worker's earlier session is closed.
 handle_of_an_ended_session : answer_of setup (view (record nothing_open { opens = plain 102 1 4 1 ∷ [] })) 2 9 (at 70) (Close 4) ≡ Some FileClosed
-unfolding conclude close caller_of
+unfolding conclude expired_by close caller_of
 handle_of_an_ended_session = refl
 
 -- A handle is no id: once the open of call 1 is under handle 4, 1 names nothing, and 4 names that open.
 handle_is_no_id : call_of setup (view (record nothing_open { opens = record (plain 102 1 1 1) { owner = them; handle = 4 } ∷ [] })) 2 9 (at 70) (Close 4)
     ≡ Some (record { changes = c.DropOpen 1 (id 102 1) ∷ c.Settle ∷ []; reply = Done; posts = [] })
-unfolding conclude close caller_of settle_by_key
+unfolding conclude expired_by close caller_of settle_by_key
 handle_is_no_id = refl
 
 id_is_no_handle : answer_of setup (view (record nothing_open { opens = record (plain 102 1 1 1) { owner = them; handle = 4 } ∷ [] })) 2 9 (at 70) (Close 1) ≡ Some FileClosed
-unfolding conclude close caller_of
+unfolding conclude expired_by close caller_of
 id_is_no_handle = refl
 
 -- ---- which entries a table accepts, and why it refuses one
@@ -133,7 +134,7 @@ close_is_accepted : Accepts setup 2 (Called 9 (at 70) (Close 4) Done) two_opens 
   waiters = waits us 8 (OpenOf 1) us ∷ [];
   letters = wakes us 6 ∷ wakes us 7 ∷ [];
 }) (wakes us 6 ∷ wakes us 7 ∷ [])
-unfolding conclude close caller_of settle_where settle_by_key
+unfolding conclude expired_by close caller_of settle_where settle_by_key
 close_is_accepted = record { answers = refl; table = refl; posts_are = refl }
 
 death_is_accepted : Accepts setup 1 (Died 2 (at 70)) (record nothing_open { opens = plain 101 1 4 1 ∷ plain 102 3 4 1 ∷ [] }) (record nothing_open {
@@ -141,7 +142,7 @@ death_is_accepted : Accepts setup 1 (Died 2 (at 70)) (record nothing_open { open
   workers = worker_101 ∷ record worker_102 { alive = false } ∷ worker_103 ∷ [];
   ended = ended 102 1 10 ∷ ended 103 1 20 ∷ ended 102 2 40 ∷ ended 103 2 50 ∷ ended 102 3 70 ∷ [];
 }) []
-unfolding conclude end_of_session caller_of end_session settle_where settle_by_key
+unfolding conclude expired_by end_of_session caller_of end_session settle_where settle_by_key
 death_is_accepted = record { answers = refl; table = refl; posts_are = refl }
 
 tidied_chain_is_accepted : Accepts setup 3 (Tidied 20) two_opens two_opens []
@@ -149,7 +150,7 @@ tidied_chain_is_accepted = record { answers = tt; table = refl; posts_are = refl
 
 -- The table's reply is handed back where the entry has another.
 reply_differs : Refuses setup 1 (Called 9 (at 70) (Close 5) Done) two_opens (refusals.Differs FileClosed)
-unfolding conclude close caller_of
+unfolding conclude expired_by close caller_of
 reply_differs = (refl, λ e. cc)
 
 -- The entry's own reply is no refusal.

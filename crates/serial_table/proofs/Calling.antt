@@ -1,6 +1,6 @@
 -- Calls and deaths, as a table answers them.
 use Rattle.std.proofs.Common.{◌≡◌, ℕ, true, List, [], Option, Some, None, option_and_then, find, refl, sym, ap, ◌∙◌, subst}
-use Rattle.std.specs.Prelude.{IsSome, IfSome, IfOk, OnErr, Result, Ok, Err}
+use Rattle.std.specs.Prelude.{IsSome, IfSome, IfOk, IfErr, OnOk, OnErr, Result, Ok, Err}
 use Rattle.std.specs.Global.{Vec}
 use Rattle.sid_core.specs.declared.entry.Event.{Event}
 use Rattle.serial_table.specs.declared.apply.Apply.{Apply}
@@ -8,7 +8,8 @@ use Rattle.serial_table.specs.declared.decision.Decision.{Decision}
 use Rattle.serial_table.specs.Settle.{settle}
 use Rattle.serial_table.specs.History.{start, after_event}
 use Rattle.serial_table.proofs.Callers.{is_caller_of}
-use Rattle.serial_table.proofs.Concluding.{start-settled, after_event-settled}
+use Rattle.serial_table.proofs.Concluding.{start-settled}
+use Rattle.serial_table.proofs.Expiring.{after_event-settled}
 use Rattle.std.specs.Option.{option_map, option_map_or}
 use Rattle.sid_core.specs.declared.ids.Moment.{Moment}
 use Rattle.sid_core.specs.declared.call.Call.{Call}
@@ -26,7 +27,8 @@ use Rattle.serial_table.specs.Decision.{Outcome, conclude}
 use Rattle.serial_table.specs.Decide.{outcome}
 use Rattle.serial_table.specs.Session.{end_of_session}
 use Rattle.serial_table.specs.Step.{declared_at, caller_if_alive, caller_of, call_of, answer_of, death_of}
-use Rattle.serial_table.specs.Apply.{Accepts}
+use Rattle.serial_table.specs.declared.apply.Apply.TheVariants as refusals
+use Rattle.serial_table.specs.Apply.{Accepts, DiffersFrom, Refuses}
 
 pub caller_is : (setup : Setup) (t : Table) (worker number : ℕ) (moment : Moment) (infos : List WorkerInfo) (rows : List WorkerRow) (info : WorkerInfo) (row : WorkerRow)
     → infos ≡ setup.workers → rows ≡ t.workers → Some info ≡ declared_at infos worker → Some row ≡ find (has_pid info.pid) rows
@@ -56,6 +58,25 @@ accepts_call setup t next worker number moment call reply caller posts e f g h =
       table = g ∙ ap (λ o. perform_all (option_map_or (λ (done : Outcome). done.changes) o []) t) (sym known);
       posts_are = h ∙ ap (λ o. option_map_or (λ (done : Outcome). done.posts) o []) (sym known);
     }
+
+-- the same of a result: an entry is accepted, or refused for its reply or for want of memory
+pub accepts_result : (setup : Setup) (t next : Table) (worker number : ℕ) (moment : Moment) (call : Call) (reply : Reply) (caller : Caller) (r : Result (Vec Post) Apply)
+    → caller_of setup (view t) worker number moment ≡ Some caller → OnOk r ((outcome setup (view t) caller call).reply ≡ reply)
+    → OnOk r (next ≡ perform_all (outcome setup (view t) caller call).changes t) → IfOk r (λ posts. posts.items ≡ (outcome setup (view t) caller call).posts)
+    → IfOk r (λ posts. Accepts setup worker (Called number moment call reply) t next posts.items)
+accepts_result setup t next worker number moment call reply caller (Ok posts) e f g h = accepts_call setup t next worker number moment call reply caller posts.items e f g h
+accepts_result setup t next worker number moment call reply caller (Err refusal) e f g h = tt
+
+refuses_call : (setup : Setup) (t : Table) (worker number : ℕ) (moment : Moment) (call : Call) (reply : Reply) (caller : Caller) (refusal : Apply) → caller_of setup (view t) worker number moment ≡ Some caller
+    → DiffersFrom reply (outcome setup (view t) caller call).reply refusal → Refuses setup worker (Called number moment call reply) t refusal
+refuses_call setup t worker number moment call reply caller (refusals.Differs given) e h = (answer_is setup t worker number moment call caller e ∙ ap (λ (r : Reply). Some r) h.0, h.1)
+refuses_call setup t worker number moment call reply caller (refusals.NotAlive named) e h = absurd h
+refuses_call setup t worker number moment call reply caller refusals.OutOfMemory e h = tt
+
+pub refuses_result : (setup : Setup) (t : Table) (worker number : ℕ) (moment : Moment) (call : Call) (reply : Reply) (caller : Caller) (r : Result (Vec Post) Apply) → caller_of setup (view t) worker number moment ≡ Some caller
+    → IfErr r (DiffersFrom reply (outcome setup (view t) caller call).reply) → IfErr r (Refuses setup worker (Called number moment call reply) t)
+refuses_result setup t worker number moment call reply caller (Ok posts) e h = tt
+refuses_result setup t worker number moment call reply caller (Err refusal) e h = refuses_call setup t worker number moment call reply caller refusal e h
 
 death_is : (setup : Setup) (t : Table) (worker : ℕ) (moment : Moment) (caller : Caller) → caller_of setup (view t) worker 0 moment ≡ Some caller
     → death_of setup (view t) worker moment ≡ Some (conclude (view t) (end_of_session (view t) caller.sid moment []))

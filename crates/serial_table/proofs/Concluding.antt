@@ -3,29 +3,21 @@ use Rattle.std.proofs.Common.{◌≡◌, ◌==◌, ◌&&◌, ℕ, Bool, true, fa
 use Rattle.std.proofs.lemmas.Bool.{and_parts, and_from}
 use Rattle.std.proofs.lemmas.List.Folds.{list_all-append, list_all-map}
 use Rattle.std.specs.List.{list_all}
-use Rattle.std.specs.Option.{option_map, option_map_or}
 use Rattle.sid_core.specs.declared.ids.Sid.{Sid}
 use Rattle.sid_core.specs.declared.entry.Post.{Post}
-use Rattle.sid_core.specs.declared.entry.Entry.{Entry}
-use Rattle.sid_core.specs.declared.entry.Event.{Event}
-use Rattle.sid_core.specs.declared.entry.Event.TheVariants.{Called, Died, Tidied}
 use Rattle.sid_core.specs.declared.setup.Setup.{Setup}
 use Rattle.serial_table.specs.declared.rows.WaiterRow.{WaiterRow}
 use Rattle.serial_table.specs.declared.rows.Watch.{Watch}
 use Rattle.serial_table.specs.declared.table.Table.{Table}
 use Rattle.serial_table.specs.declared.change.Change.{Change}
 use Rattle.serial_table.specs.declared.change.Change.TheVariants as c
-use Rattle.serial_table.specs.declared.decision.Caller.{Caller}
 use Rattle.serial_table.specs.declared.decision.Decision.{Decision}
 use Rattle.serial_table.specs.View.{View, view, lives}
 use Rattle.serial_table.specs.Settle.{settle, settle_where}
 use Rattle.serial_table.specs.Change.{perform, perform_all}
-use Rattle.serial_table.specs.Decision.{Outcome, conclude, settling, finishing, waits_now, waits_no_more, woken_by}
+use Rattle.serial_table.specs.Decision.{conclude, settling, finishing, waits_now, waits_no_more, woken_by}
 use Rattle.serial_table.specs.Local.{all_in}
-use Rattle.serial_table.specs.Decide.{decide}
-use Rattle.serial_table.specs.Session.{end_of_session}
-use Rattle.serial_table.specs.Step.{caller_of}
-use Rattle.serial_table.specs.History.{start, after_event, after_all}
+use Rattle.serial_table.specs.History.{start}
 use Rattle.serial_table.proofs.Every.{all_pass}
 use Rattle.serial_table.proofs.Settled.{settle-settle, settle_after}
 
@@ -93,6 +85,8 @@ one_stays_settled (c.SetLease file name held breaking) t e s = absurd cc
 one_stays_settled (c.Acknowledge file name state) t e s = absurd cc
 one_stays_settled (c.AddRange range) t e s = absurd cc
 one_stays_settled (c.DropRange range) t e s = absurd cc
+one_stays_settled (c.AddPending file) t e s = absurd cc
+one_stays_settled (c.DropPending file) t e s = absurd cc
 one_stays_settled (c.EndSession sid moment) t e s = absurd cc
 one_stays_settled (c.NextSession sid moment) t e s = absurd cc
 one_stays_settled c.Settle t e s = absurd cc
@@ -132,19 +126,3 @@ concluded_is_settled d t =
 pub start-settled : (setup : Setup) → settle (start setup) ≡ start setup
 unfolding settle_where
 start-settled setup = refl
-
-called_settled : (setup : Setup) (t : Table) (o : Option Caller) (judge : Caller → Decision) → settle t ≡ t
-    → settle (perform_all (option_map_or (λ (done : Outcome). done.changes) (option_map (λ caller. conclude (view t) (judge caller)) o) []) t)
-    ≡ perform_all (option_map_or (λ (done : Outcome). done.changes) (option_map (λ caller. conclude (view t) (judge caller)) o) []) t
-called_settled setup t None judge s = s
-called_settled setup t (Some caller) judge s = concluded_is_settled (judge caller) t
-
--- a settled table is settled after each event
-pub after_event-settled : (setup : Setup) (t : Table) (by : ℕ) (event : Event) → settle t ≡ t → settle (after_event setup t by event) ≡ after_event setup t by event
-after_event-settled setup t by (Called number moment call reply) s = called_settled setup t (caller_of setup (view t) by number moment) (λ caller. decide setup (view t) caller call) s
-after_event-settled setup t by (Died worker moment) s = called_settled setup t (caller_of setup (view t) worker 0 moment) (λ caller. end_of_session (view t) caller.sid moment []) s
-after_event-settled setup t by (Tidied chain) s = s
-
-pub after_all-settled : (setup : Setup) (t : Table) (history : List Entry) → settle t ≡ t → settle (after_all setup t history) ≡ after_all setup t history
-after_all-settled setup t [] s = s
-after_all-settled setup t (entry ∷ history) s = after_all-settled setup (after_event setup t entry.by entry.what) history (after_event-settled setup t entry.by entry.what s)

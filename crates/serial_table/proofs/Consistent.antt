@@ -1,5 +1,6 @@
 -- Each change keeps the table consistent, where what it adds fits.
 use Rattle.std.proofs.Common.{◌≡◌, ◌==◌, ◌&&◌, ◌||◌, not, ℕ, Bool, true, false, cond, List, [], ◌∷◌, ◌++◌, filter, map, Option, Some, None, refl, sym, ap, ◌∙◌, eq-eqb}
+use Rattle.std.specs.Prelude.{nat_eq}
 use Rattle.std.specs.List.{IsDistinct, list_any, list_all}
 use Rattle.std.specs.Option.{option_map_or}
 use Rattle.std.proofs.lemmas.Bool.{eqb-true, and_parts, and_from, and_left, cond_both, not-true, both_ways, not-false}
@@ -25,11 +26,11 @@ use Rattle.serial_table.specs.declared.table.Table.{Table}
 use Rattle.serial_table.specs.declared.change.Change.{Change}
 use Rattle.serial_table.specs.declared.change.Change.TheVariants as c
 use Rattle.serial_table.specs.Lists.{drop_first}
-use Rattle.serial_table.specs.View.{View, view, lives, carries, is_of_file, is_of_handle, is_to, waits_behind}
+use Rattle.serial_table.specs.View.{View, view, lives, carries, is_of_file, is_of_handle, is_to, waits_behind, names_file}
 use Rattle.serial_table.specs.File.{FileView, FileOpen, file_view, file_open, is_under}
-use Rattle.serial_table.specs.Settle.{settle, settle_where, broken_to_needed, settled_lease, keeps_open, row_stays, range_stays, lease_settles, lease_stays}
-use Rattle.serial_table.specs.Change.{perform, perform_all, is_open, is_other_open, is_other_range, is_other_wait, new_owner, is_lease, set_lease, same_range, same_mode, is_hold, set_hold, outlives, range_outlives, end_session, begin_session}
-use Rattle.serial_table.specs.Sound.{IsConsistent, Fits, AllFit, have_same_id, have_same_handle, have_same_name, have_same_pid, has_had, has_its_lease, is_leased_if_durable, lasts, is_durable, breaks_well, states_agree, has_its_open, cannot_both_hold, cannot_both_wait, waits_among_living, may_hold}
+use Rattle.serial_table.specs.Settle.{settle, settle_where, broken_to_needed, settled_lease, keeps_open, row_stays, range_stays, lease_settles, lease_stays, pending_stays}
+use Rattle.serial_table.specs.Change.{perform, perform_all, is_open, is_other_open, is_other_range, is_other_wait, new_owner, is_lease, set_lease, same_range, same_mode, is_hold, set_hold, with_pending, outlives, range_outlives, end_session, begin_session}
+use Rattle.serial_table.specs.Sound.{IsConsistent, Fits, AllFit, have_same_id, have_same_handle, have_same_name, have_same_pid, has_had, has_its_lease, is_leased_if_durable, may_delete_if_marked, lasts, is_durable, breaks_well, states_agree, has_its_open, cannot_both_hold, cannot_both_wait, waits_among_living, may_hold}
 use Rattle.serial_table.proofs.SameIds.{same_id-eq, same_name-eq, same_name-refl, same_id-refl, same_sid-refl, same_sid-flip, eqb-flip}
 use Rattle.serial_table.proofs.Names.{same_sid-eq}
 use Rattle.serial_table.proofs.Views.{pid-end_session, pid-begin_session, file-new_owner, id-new_owner, name-set_lease, name-settled_lease, file-settled_lease}
@@ -64,6 +65,7 @@ with_letters t letters k live = record {
   handles_differ = k.handles_differ;
   opens_have_leases = k.opens_have_leases;
   durable_are_leased = k.durable_are_leased;
+  marked_may_delete = k.marked_may_delete;
   opens_last = k.opens_last;
   owners_had = k.owners_had;
   leases_differ = k.leases_differ;
@@ -75,6 +77,7 @@ with_letters t letters k live = record {
   waits_differ = k.waits_differ;
   receivers_live = live;
   pids_differ = k.pids_differ;
+  pending_differ = k.pending_differ;
 }
 
 with_waiters : (t : Table) (waiters : List WaiterRow) → IsConsistent t → list_all (waits_among_living (view t)) waiters ≡ true → IsDistinct cannot_both_wait waiters
@@ -84,6 +87,7 @@ with_waiters t waiters k live differ = record {
   handles_differ = k.handles_differ;
   opens_have_leases = k.opens_have_leases;
   durable_are_leased = k.durable_are_leased;
+  marked_may_delete = k.marked_may_delete;
   opens_last = k.opens_last;
   owners_had = k.owners_had;
   leases_differ = k.leases_differ;
@@ -95,6 +99,7 @@ with_waiters t waiters k live differ = record {
   waits_differ = differ;
   receivers_live = k.receivers_live;
   pids_differ = k.pids_differ;
+  pending_differ = k.pending_differ;
 }
 
 with_holds : (t : Table) (holds : List HoldRow) → IsConsistent t → list_all (λ hold. lives (view t) hold.owner) holds ≡ true → IsDistinct cannot_both_hold holds
@@ -104,6 +109,7 @@ with_holds t holds k live agree = record {
   handles_differ = k.handles_differ;
   opens_have_leases = k.opens_have_leases;
   durable_are_leased = k.durable_are_leased;
+  marked_may_delete = k.marked_may_delete;
   opens_last = k.opens_last;
   owners_had = k.owners_had;
   leases_differ = k.leases_differ;
@@ -115,6 +121,7 @@ with_holds t holds k live agree = record {
   waits_differ = k.waits_differ;
   receivers_live = k.receivers_live;
   pids_differ = k.pids_differ;
+  pending_differ = k.pending_differ;
 }
 
 with_ranges : (t : Table) (ranges : List RangeRow) → IsConsistent t → list_all (has_its_open t.opens) ranges ≡ true → IsConsistent (record t { ranges = ranges })
@@ -123,6 +130,7 @@ with_ranges t ranges k opens = record {
   handles_differ = k.handles_differ;
   opens_have_leases = k.opens_have_leases;
   durable_are_leased = k.durable_are_leased;
+  marked_may_delete = k.marked_may_delete;
   opens_last = k.opens_last;
   owners_had = k.owners_had;
   leases_differ = k.leases_differ;
@@ -134,6 +142,7 @@ with_ranges t ranges k opens = record {
   waits_differ = k.waits_differ;
   receivers_live = k.receivers_live;
   pids_differ = k.pids_differ;
+  pending_differ = k.pending_differ;
 }
 
 with_leases : (t : Table) (leases : List LeaseRow) → IsConsistent t → list_all (has_its_lease leases) t.opens ≡ true → IsDistinct have_same_name leases
@@ -143,6 +152,7 @@ with_leases t leases k opens differ agree = record {
   handles_differ = k.handles_differ;
   opens_have_leases = opens;
   durable_are_leased = k.durable_are_leased;
+  marked_may_delete = k.marked_may_delete;
   opens_last = k.opens_last;
   owners_had = k.owners_had;
   leases_differ = differ;
@@ -154,7 +164,35 @@ with_leases t leases k opens differ agree = record {
   waits_differ = k.waits_differ;
   receivers_live = k.receivers_live;
   pids_differ = k.pids_differ;
+  pending_differ = k.pending_differ;
 }
+
+with_files : (t : Table) (files : List ℕ) → IsConsistent t → IsDistinct nat_eq files → IsConsistent (record t { pending = files })
+with_files t files k differ = record {
+  ids_differ = k.ids_differ;
+  handles_differ = k.handles_differ;
+  opens_have_leases = k.opens_have_leases;
+  durable_are_leased = k.durable_are_leased;
+  marked_may_delete = k.marked_may_delete;
+  opens_last = k.opens_last;
+  owners_had = k.owners_had;
+  leases_differ = k.leases_differ;
+  leases_agree = k.leases_agree;
+  ranges_have_opens = k.ranges_have_opens;
+  holders_live = k.holders_live;
+  holds_agree = k.holds_agree;
+  waiters_live = k.waiters_live;
+  waits_differ = k.waits_differ;
+  receivers_live = k.receivers_live;
+  pids_differ = k.pids_differ;
+  pending_differ = differ;
+}
+
+-- ---- files that are to go
+
+added_differ : (file : ℕ) (files : List ℕ) → IsDistinct nat_eq files → IsDistinct nat_eq (with_pending file files)
+unfolding with_pending
+added_differ file files d = cond_both (list_any (names_file file) files) files (files ++ file ∷ []) (IsDistinct nat_eq) (λ _. d) (λ none. distinct_pushed nat_eq files file d none)
 
 -- ---- leases
 
@@ -250,6 +288,7 @@ takes_over file id owner handle t k live free = record {
       k.ids_differ k.handles_differ;
   opens_have_leases = taken_all file id owner handle t.opens (has_its_lease t.leases) (λ o e. e) k.opens_have_leases;
   durable_are_leased = taken_all file id owner handle t.opens is_leased_if_durable (λ o e. e) k.durable_are_leased;
+  marked_may_delete = taken_all file id owner handle t.opens may_delete_if_marked (λ o e. e) k.marked_may_delete;
   opens_last = taken_all file id owner handle t.opens (lasts (view t)) (λ o e. ap (λ b. b || is_durable o) live) k.opens_last;
   owners_had = taken_all file id owner handle t.opens (λ (o : OpenRow). has_had (view t) o.owner) (λ o e. lives_had t.workers owner live) k.owners_had;
   leases_differ = k.leases_differ;
@@ -264,6 +303,7 @@ takes_over file id owner handle t k live free = record {
   waits_differ = k.waits_differ;
   receivers_live = k.receivers_live;
   pids_differ = k.pids_differ;
+  pending_differ = k.pending_differ;
 }
   where
     f : OpenRow → OpenRow
@@ -399,6 +439,7 @@ settles t k =
       opens_have_leases = all_each (has_its_lease (settled t)) opens
           (λ o i. let h = in_filter (row_stays (λ file. true) v) t.opens o i in leases_left t o o.lease refl h.0 h.1 (each (has_its_lease t.leases) t.opens k.opens_have_leases o h.0));
       durable_are_leased = all_kept is_leased_if_durable (row_stays (λ file. true) v) t.opens k.durable_are_leased;
+      marked_may_delete = all_kept may_delete_if_marked (row_stays (λ file. true) v) t.opens k.marked_may_delete;
       opens_last = all_kept (lasts v) (row_stays (λ file. true) v) t.opens k.opens_last;
       owners_had = all_kept (λ (o : OpenRow). has_had v o.owner) (row_stays (λ file. true) v) t.opens k.owners_had;
       leases_differ = distinct_filtered have_same_name (lease_stays (λ file. true) v) (map f t.leases)
@@ -415,6 +456,7 @@ settles t k =
       waits_differ = k.waits_differ;
       receivers_live = k.receivers_live;
       pids_differ = k.pids_differ;
+      pending_differ = distinct_filtered nat_eq (pending_stays (λ file. true) v) t.pending k.pending_differ;
     }
 
 -- ---- sessions end and begin
@@ -439,6 +481,7 @@ ends_session sid moment t k fit =
       handles_differ = distinct_filtered have_same_handle (outlives sid) t.opens k.handles_differ;
       opens_have_leases = all_kept (has_its_lease t.leases) (outlives sid) t.opens k.opens_have_leases;
       durable_are_leased = all_kept is_leased_if_durable (outlives sid) t.opens k.durable_are_leased;
+      marked_may_delete = all_kept may_delete_if_marked (outlives sid) t.opens k.marked_may_delete;
       opens_last = all_each (lasts (view now)) (filter (outlives sid) t.opens)
           (λ o i. let h = in_filter (outlives sid) t.opens o i in
           lasts_on (lives (view t) o.owner) (lives (view now) o.owner) (same_sid o.owner sid) (is_durable o) (each (lasts (view t)) t.opens k.opens_last o h.0) h.1 (on o.owner));
@@ -462,6 +505,7 @@ ends_session sid moment t k fit =
           (λ post i. let h = in_filter (λ post. not (is_to sid post)) t.letters post i in
           on post.to (not-true (is_to sid post) h.1) (each (λ post. lives (view t) post.to) t.letters k.receivers_live post h.0));
       pids_differ = distinct_mapped have_same_pid have_same_pid have_same_pid (end_session sid) t.workers (λ v w i j e h. (λ i. pid-end_session sid v i == pid-end_session sid w i) ∙ e) k.pids_differ k.pids_differ;
+      pending_differ = k.pending_differ;
     }
 
 begins_session : (after : Sid) (moment : Moment) (t : Table) → IsConsistent t → Fits (c.NextSession after moment) t → IsConsistent (perform (c.NextSession after moment) t)
@@ -473,6 +517,7 @@ begins_session after moment t k fit =
       handles_differ = k.handles_differ;
       opens_have_leases = k.opens_have_leases;
       durable_are_leased = k.durable_are_leased;
+      marked_may_delete = k.marked_may_delete;
       opens_last = all_weaker (lasts (view t)) (lasts (view now)) t.opens (λ o i e. lasts_on (lives (view t) o.owner) (lives (view now) o.owner) false (is_durable o) e refl (λ _. on o.owner)) k.opens_last;
       owners_had = all_weaker (λ (o : OpenRow). has_had (view t) o.owner) (λ o. has_had (view now) o.owner) t.opens (λ o i e. had-begin_session t.workers after moment o.owner e) k.owners_had;
       leases_differ = k.leases_differ;
@@ -487,6 +532,7 @@ begins_session after moment t k fit =
       waits_differ = k.waits_differ;
       receivers_live = all_weaker (λ post. lives (view t) post.to) (λ post. lives (view now) post.to) t.letters (λ post i. on post.to) k.receivers_live;
       pids_differ = distinct_mapped have_same_pid have_same_pid have_same_pid (begin_session after moment) t.workers (λ v w i j e h. (λ i. pid-begin_session after moment v i == pid-begin_session after moment w i) ∙ e) k.pids_differ k.pids_differ;
+      pending_differ = k.pending_differ;
     }
   where
     no_blocker : (blocker : Option Sid) → option_map_or (λ (s : Sid). false) blocker false ≡ false
@@ -501,6 +547,7 @@ consistent-perform (c.AddOpen row) t k fit = record {
   handles_differ = distinct_pushed have_same_handle t.opens row k.handles_differ fit.handle;
   opens_have_leases = all_pushed (has_its_lease t.leases) t.opens row k.opens_have_leases fit.lease;
   durable_are_leased = all_pushed is_leased_if_durable t.opens row k.durable_are_leased fit.leased;
+  marked_may_delete = all_pushed may_delete_if_marked t.opens row k.marked_may_delete fit.marked;
   opens_last = all_pushed (lasts (view t)) t.opens row k.opens_last (ap (λ b. b || is_durable row) fit.owner);
   owners_had = all_pushed (λ (o : OpenRow). has_had (view t) o.owner) t.opens row k.owners_had (lives_had t.workers row.owner fit.owner);
   leases_differ = k.leases_differ;
@@ -512,12 +559,14 @@ consistent-perform (c.AddOpen row) t k fit = record {
   waits_differ = k.waits_differ;
   receivers_live = k.receivers_live;
   pids_differ = k.pids_differ;
+  pending_differ = k.pending_differ;
 }
 consistent-perform (c.DropOpen file id) t k fit = record {
   ids_differ = distinct_filtered have_same_id (is_other_open file id) t.opens k.ids_differ;
   handles_differ = distinct_filtered have_same_handle (is_other_open file id) t.opens k.handles_differ;
   opens_have_leases = all_kept (has_its_lease t.leases) (is_other_open file id) t.opens k.opens_have_leases;
   durable_are_leased = all_kept is_leased_if_durable (is_other_open file id) t.opens k.durable_are_leased;
+  marked_may_delete = all_kept may_delete_if_marked (is_other_open file id) t.opens k.marked_may_delete;
   opens_last = all_kept (lasts (view t)) (is_other_open file id) t.opens k.opens_last;
   owners_had = all_kept (λ (o : OpenRow). has_had (view t) o.owner) (is_other_open file id) t.opens k.owners_had;
   leases_differ = k.leases_differ;
@@ -531,6 +580,7 @@ consistent-perform (c.DropOpen file id) t k fit = record {
   waits_differ = k.waits_differ;
   receivers_live = k.receivers_live;
   pids_differ = k.pids_differ;
+  pending_differ = k.pending_differ;
 }
 consistent-perform (c.TakeOver file id owner handle) t k fit =
     cond_both (list_any (is_of_handle owner handle) t.opens) t (record t { opens = map (new_owner file id owner handle) t.opens }) IsConsistent (λ _. k) (λ free. takes_over file id owner handle t k fit free)
@@ -542,6 +592,9 @@ consistent-perform (c.SetLease file name held breaking) t k fit = sets_lease fil
 consistent-perform (c.Acknowledge file name state) t k fit = sets_lease file name state None t k (ap (λ b. b && true) fit)
 consistent-perform (c.AddRange range) t k fit = with_ranges t (t.ranges ++ range ∷ []) k (all_pushed (has_its_open t.opens) t.ranges range k.ranges_have_opens fit)
 consistent-perform (c.DropRange range) t k fit = with_ranges t (drop_first (same_range range) t.ranges) k (all_dropped (has_its_open t.opens) (same_range range) t.ranges k.ranges_have_opens)
+consistent-perform (c.AddPending file) t k fit = with_files t (with_pending file t.pending) k (added_differ file t.pending k.pending_differ)
+consistent-perform (c.DropPending file) t k fit =
+    with_files t (filter (λ pending. not (names_file file pending)) t.pending) k (distinct_filtered nat_eq (λ pending. not (names_file file pending)) t.pending k.pending_differ)
 consistent-perform (c.AddHold hold) t k fit =
     with_holds t (t.holds ++ hold ∷ []) k (all_pushed (λ hold. lives (view t) hold.owner) t.holds hold k.holders_live fit.owner) (distinct_pushed cannot_both_hold t.holds hold k.holds_agree fit.others)
 consistent-perform (c.SetHold key owner mode) t k fit = sets_hold key owner mode t k fit

@@ -1,5 +1,5 @@
 -- What each entry of a legal history finds: a table that its changes fit, and numbers below its own.
-use Rattle.std.proofs.Common.{◌≡◌, ◌==◌, ◌≤◌, ◌<◌, ℕ, cond, List, [], ◌∷◌, ◌++◌, Option, Some, None, refl, sym, ap, subst, arith}
+use Rattle.std.proofs.Common.{◌≡◌, ◌==◌, ◌≤◌, ◌<◌, ℕ, cond, List, [], ◌∷◌, ◌++◌, Option, Some, None, refl, sym, ap, ◌∙◌, subst, arith}
 use Rattle.std.specs.Option.{option_map, option_map_or}
 use Rattle.sid_core.specs.declared.ids.Moment.{Moment}
 use Rattle.sid_core.specs.declared.call.Call.{Call}
@@ -15,22 +15,28 @@ use Rattle.serial_table.specs.declared.decision.Caller.{Caller}
 use Rattle.serial_table.specs.View.{view}
 use Rattle.serial_table.specs.Decision.{Outcome, conclude}
 use Rattle.serial_table.specs.Session.{end_of_session}
-use Rattle.serial_table.specs.Decide.{outcome}
+use Rattle.serial_table.specs.Decide.{decide, outcome}
+use Rattle.serial_table.specs.Expire.{expired_by}
 use Rattle.serial_table.specs.Step.{caller_of, declared_at, changes_of}
 use Rattle.sid_core.specs.Counting.{RisesAbove}
 use Rattle.serial_table.specs.History.{start, after, IsLegalCall, IsLegalEvent, IsLegal, call_number, numbers_of}
 use Rattle.serial_table.specs.Sound.{AllFit, AreBelow}
 use Rattle.serial_table.proofs.Members.{all_by}
+use Rattle.serial_table.specs.declared.change.Change.{Change}
+use Rattle.serial_table.proofs.Views.{view-perform_all}
+use Rattle.serial_table.proofs.Fitting.{fit_append}
+use Rattle.serial_table.proofs.Expiring.{behind, caller_behind}
+use Rattle.serial_table.proofs.ExpiringFits.{expired_fits}
 use Rattle.serial_table.proofs.Callers.{IsCallerOf, is_caller_of}
 use Rattle.serial_table.proofs.Numbered.{IsNumbered}
-use Rattle.serial_table.proofs.Along.{Rises, rises_at, along_before, legal_before}
-use Rattle.serial_table.proofs.Soundness.{IsReached, call_fits, dying_fits, calls_reach, deaths_reach, start_reached}
+use Rattle.serial_table.proofs.Along.{right_call, Rises, rises_at, along_before, legal_before}
+use Rattle.serial_table.proofs.Soundness.{IsReached, call_fits, dying_fits, expiries_reach, calls_reach, deaths_reach, start_reached}
 
 -- the table before an entry is reached, and the entry's number is above the last one of its worker
 reached_before : (setup : Setup) (before later : List Entry) (entry : Entry) → IsSetup setup → IsLegal setup (before ++ entry ∷ later)
     → (low : ℕ → ℕ) × IsReached low (after setup before) × Rises setup low (entry ∷ later)
 reached_before setup before later entry s legal =
-    along_before setup s IsReached (calls_reach setup) (deaths_reach setup) (λ pid. 0) (start setup) before (entry ∷ later) (start_reached setup s)
+    along_before setup s IsReached (expiries_reach setup) (calls_reach setup) (deaths_reach setup) (λ pid. 0) (start setup) before (entry ∷ later) (start_reached setup s)
     (legal_before setup (start setup) before later entry legal.entries).0 (λ worker info d. legal.rising worker)
 
 -- ---- the changes of an entry fit
@@ -40,7 +46,13 @@ called_fits : (setup : Setup) (low : ℕ → ℕ) (t : Table) (by number : ℕ) 
     → AllFit (option_map_or (λ (done : Outcome). done.changes) (option_map (λ caller. outcome setup (view t) caller call) o) []) t
 called_fits setup low t by number moment call reply None r legal is above = tt
 called_fits setup low t by number moment call reply (Some caller) r legal is above =
-    let of = is_caller_of setup t by number moment caller is in call_fits setup low t by number moment call reply caller r legal of (above caller of)
+    let of = is_caller_of setup t by number moment caller is in
+    let first : List Change = expired_by setup (view t) caller call in
+    let u : Table = behind setup t caller call in
+    let there = is_caller_of setup u by number moment caller (caller_behind setup t caller call by number moment ∙ is) in
+    let later : AllFit (conclude (view u) (decide setup (view u) caller call)).changes u =
+    call_fits setup low u by number moment call caller (expiries_reach setup low t caller call r) (right_call setup t by number moment call reply legal) there (above caller of) in
+    fit_append first _ t (expired_fits setup t caller call r.consistent) (subst (λ v. AllFit (conclude v (decide setup v caller call)).changes u) (view-perform_all first t) later)
 
 died_fits : (setup : Setup) (low : ℕ → ℕ) (t : Table) (worker : ℕ) (moment : Moment) (o : Option Caller) → IsReached low t → caller_of setup (view t) worker 0 moment ≡ o
     → AllFit (option_map_or (λ (done : Outcome). done.changes) (option_map (λ (caller : Caller). conclude (view t) (end_of_session (view t) caller.sid moment [])) o) []) t

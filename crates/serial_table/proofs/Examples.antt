@@ -5,6 +5,7 @@ use Rattle.sid_core.specs.declared.call.Call.TheVariants.{Close}
 use Rattle.sid_core.specs.declared.entry.Entry.{Entry}
 use Rattle.sid_core.specs.declared.entry.Event.TheVariants.{Tidied}
 use Rattle.sid_core.specs.declared.reply.Reply.TheVariants.{Done, FileClosed, SharingViolation}
+use Rattle.serial_table.specs.Expire.{expired_by}
 use Rattle.serial_table.specs.Settle.{settle_where, settle_by_key}
 use Rattle.serial_table.specs.Change.{end_session}
 use Rattle.serial_table.specs.Decision.{conclude}
@@ -25,11 +26,11 @@ closed_twice =
     ∷ calls 1 3 3 0 (Close 1) FileClosed ∷ []
 
 closed_twice_prints : text setup closed_twice ≡ codes "1.1 open GRANTED" ++ 10 ∷ (codes "1.2 close OK" ++ 10 ∷ (codes "1.3 close FILE_CLOSED" ++ 10 ∷ []))
-unfolding conclude open_file open_by handle_breaks other_breaks break_each break_lease grant close caller_of settle_where settle_by_key digits
+unfolding conclude expired_by open_file open_by handle_breaks other_breaks break_each break_lease grant close caller_of settle_where settle_by_key digits
 closed_twice_prints = refl
 
 closed_twice_is_legal : AreLegal setup (start setup) closed_twice
-unfolding conclude open_file open_by handle_breaks other_breaks break_each break_lease grant close caller_of settle_where settle_by_key
+unfolding conclude expired_by open_file open_by handle_breaks other_breaks break_each break_lease grant close caller_of settle_where settle_by_key
 closed_twice_is_legal = (
   record {
     numbered = (lit≤ tt, lit≤ tt);
@@ -51,11 +52,11 @@ violated =
 
 violated_prints : text setup violated
     ≡ codes "1.1 open GRANTED" ++ 10 ∷ (codes "2.1 open SHARING_VIOLATION" ++ 10 ∷ (codes "2.2 open GRANTED" ++ 10 ∷ (codes "1.2 open GRANTED" ++ 10 ∷ [])))
-unfolding conclude open_file open_by handle_breaks other_breaks break_each break_lease grant caller_of settle_where settle_by_key digits
+unfolding conclude expired_by open_file open_by handle_breaks other_breaks break_each break_lease grant caller_of settle_where settle_by_key digits
 violated_prints = refl
 
 violated_is_legal : AreLegal setup (start setup) violated
-unfolding conclude open_file open_by handle_breaks other_breaks break_each break_lease grant caller_of settle_where settle_by_key
+unfolding conclude expired_by open_file open_by handle_breaks other_breaks break_each break_lease grant caller_of settle_where settle_by_key
 violated_is_legal = (
   record {
     numbered = (lit≤ tt, lit≤ tt);
@@ -95,5 +96,5 @@ abbrev succeeded : List Entry
 succeeded = calls 1 1 1 0 (opens 1 0x3 0) granted ∷ dies 1 1 0 ∷ calls 2 1 1 10 (opens 1 0x3 0) granted ∷ []
 
 succeeded_prints : text setup succeeded ≡ codes "1.1 open GRANTED" ++ 10 ∷ (codes "1 died" ++ 10 ∷ (codes "2.1 open GRANTED" ++ 10 ∷ []))
-unfolding conclude open_file open_by handle_breaks other_breaks break_each break_lease grant caller_of end_of_session end_session settle_where settle_by_key digits
+unfolding conclude expired_by open_file open_by handle_breaks other_breaks break_each break_lease grant caller_of end_of_session end_session settle_where settle_by_key digits
 succeeded_prints = refl

@@ -1,6 +1,6 @@
 -- What a change of one file does to what that file shows.
-use Rattle.std.proofs.Common.{◌≡◌, ◌==◌, ℕ, Bool, true, false, cond, List, [], ◌∷◌, ◌++◌, filter, map, Option, None, refl, sym, ap, ◌∙◌}
-use Rattle.std.proofs.lemmas.Bool.{eqb-true, and_parts}
+use Rattle.std.proofs.Common.{◌≡◌, ◌==◌, ℕ, Bool, true, false, cond, not, List, [], ◌∷◌, ◌++◌, filter, map, Option, None, refl, sym, ap, ◌∙◌}
+use Rattle.std.proofs.lemmas.Bool.{eqb-true, and_parts, and_right, or_left}
 use Rattle.std.proofs.lemmas.List.{map-append}
 use Rattle.std.proofs.lemmas.List.Elements.{filter-append}
 use Rattle.sid_core.specs.declared.ids.Sid.{Sid}
@@ -20,6 +20,7 @@ use Rattle.serial_table.specs.Change.{perform, perform_all, is_other_open, is_ot
 use Rattle.serial_table.specs.Local.{perform_in_file, perform_all_in_file, is_in, all_in, is_other_watch, without}
 use Rattle.serial_table.proofs.Filters.{filter-filter, filter-map, filter-drop_first, map-filter, filter-same, filter-map-same}
 use Rattle.serial_table.proofs.Views.{view-perform, file-settled_lease, same_file, waits_kept}
+use Rattle.serial_table.proofs.SameIds.{eqb-flip}
 
 -- a lease is of a file
 abbrev pub is_lease_of : ℕ → LeaseRow → Bool
@@ -102,6 +103,12 @@ file_view-perform file (c.Acknowledge g name state) t e = λ i. record (file_vie
 }
 file_view-perform file (c.AddRange range) t e = λ i. record (file_view file (view t)) { ranges = (filter-append (is_range_of file) t.ranges (range ∷ []) ∙ ap (λ xs. filter (is_range_of file) t.ranges ++ xs) (only_one (range.file == file) range e)) i }
 file_view-perform file (c.DropRange range) t e = λ i. record (file_view file (view t)) { ranges = filter-drop_first (range.file == file) (same_range range) (is_range_of file) (same_file range file) t.ranges i }
+file_view-perform file (c.AddPending g) t e = λ i. record (file_view file (view t)) {
+  pending = (ap (λ v. v.is_pending file) (view-perform (c.AddPending g) t) ∙ or_left (file == g) ((view t).is_pending file) (eqb-flip file g ∙ e)) i;
+}
+file_view-perform file (c.DropPending g) t e = λ i. record (file_view file (view t)) {
+  pending = (ap (λ v. v.is_pending file) (view-perform (c.DropPending g) t) ∙ and_right ((view t).is_pending file) (not (file == g)) (ap not (eqb-flip file g ∙ e))) i;
+}
 file_view-perform file (c.DropWaiter sid call) t e = file_view-without file sid call t
 file_view-perform file c.Settle t e = λ i. record (file_view file (view t)) {
   opens = (ap (map (file_open (lives (view t)))) (filter-filter (is_of_file file) (row_stays (λ file. true) (view t)) t.opens)
@@ -113,6 +120,7 @@ file_view-perform file c.Settle t e = λ i. record (file_view file (view t)) {
   leases = λ name. (
       ap (filter (is_lease_of file)) (ap (λ v. v.leases_of name) (view-perform c.Settle t))
       ∙ file_leases_settle (view t) file (filter (has_name name) t.leases)) i;
+  pending = ap (λ v. v.is_pending file) (view-perform c.Settle t) i;
 }
 file_view-perform file (c.TakeOver g id owner handle) t e = absurd cc
 file_view-perform file (c.AddHold hold) t e = absurd cc
@@ -136,6 +144,8 @@ lives-perform file (c.SetLease g name held breaking) t e = refl
 lives-perform file (c.Acknowledge g name state) t e = refl
 lives-perform file (c.AddRange range) t e = refl
 lives-perform file (c.DropRange range) t e = refl
+lives-perform file (c.AddPending g) t e = refl
+lives-perform file (c.DropPending g) t e = refl
 lives-perform file (c.DropWaiter sid call) t e = refl
 lives-perform file c.Settle t e = refl
 lives-perform file (c.TakeOver g id owner handle) t e = absurd cc

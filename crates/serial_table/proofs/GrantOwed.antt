@@ -1,5 +1,5 @@
 -- What an `open` is granted: the lease that it is under, and the open.
-use Rattle.std.proofs.Common.{◌≡◌, ◌==◌, ◌≤◌, ◌&&◌, ◌++◌, ℕ, Bool, true, false, not, List, [], ◌∷◌, filter, map, Option, Some, None, refl, sym, ap, ◌∙◌, subst, inl, inr, arith, eq-eqb}
+use Rattle.std.proofs.Common.{◌≡◌, ◌==◌, ◌≤◌, ◌&&◌, ◌||◌, ◌++◌, ℕ, Bool, true, false, not, List, [], ◌∷◌, filter, map, Option, Some, None, refl, sym, ap, ◌∙◌, subst, inl, inr, arith, eq-eqb}
 use Rattle.std.specs.Prelude.{is_none, bit_and, bit_or}
 use Rattle.std.specs.List.{list_all, list_any, sum_by}
 use Rattle.std.specs.Option.{option_map_or}
@@ -22,8 +22,9 @@ use Rattle.serial_table.specs.View.{view, lives, has_name}
 use Rattle.serial_table.specs.File.{FileView, file_view}
 use Rattle.serial_table.specs.Change.{perform_all, set_lease}
 use Rattle.serial_table.specs.Break.{all_but_write, sets_lease}
-use Rattle.serial_table.specs.Asked.{Asked, is_elsewhere}
+use Rattle.serial_table.specs.Asked.{Asked, deletes_without_right, is_elsewhere}
 use Rattle.serial_table.specs.Grant.{is_beside, allowed, LeaseGrant, new_lease, lease_by, grant_lease, new_open}
+use Rattle.serial_table.specs.Delete.{may_delete}
 use Rattle.serial_table.specs.Sound.{IsConsistent, IsNewOpen, IsNewLease, AllAlong, AllFit, have_same_id, have_same_handle, is_leased_if_durable, has_its_lease, states_agree, breaks_well}
 use Rattle.serial_table.specs.InSets.{IsFileNumber, IsLeaseName, AllBring}
 use Rattle.serial_table.proofs.SameIds.{same_name-refl}
@@ -165,27 +166,33 @@ module _ (t u : Table) (f : FileView) (asked : Asked) (name : LeaseName) (k : Is
 
 -- ---- the open
 
+has_right : (d m : Bool) → (d && not m) ≡ false → (not d || m) ≡ true
+has_right true true e = refl
+has_right true false e = absurd cc
+has_right false m e = refl
+
 -- It is new where no row is, and its lease is there.
 pub open_fits : (t u : Table) (caller : Caller) (asked : Asked) (durable : Bool) → IsFresh caller t → ((o : OpenRow) → IsIn o u.opens → IsIn o t.opens) → lives (view u) caller.sid ≡ true
-    → is_leased_if_durable (new_open caller asked durable) ≡ true → has_its_lease u.leases (new_open caller asked durable) ≡ true → IsNewOpen (new_open caller asked durable) u
-open_fits t u caller asked durable fresh from live leased there = record {
+    → deletes_without_right asked ≡ false → is_leased_if_durable (new_open caller asked durable) ≡ true → has_its_lease u.leases (new_open caller asked durable) ≡ true → IsNewOpen (new_open caller asked durable) u
+open_fits t u caller asked durable fresh from live right leased there = record {
   id = any_none (λ other. have_same_id other (new_open caller asked durable)) u.opens (λ o i. none_of (λ other. have_same_id other (new_open caller asked durable)) t.opens fresh.id o (from o i));
   handle = any_none (λ other. have_same_handle other (new_open caller asked durable)) u.opens (λ o i. none_of (λ other. have_same_handle other (new_open caller asked durable)) t.opens fresh.handle o (from o i));
   owner = live;
   leased = leased;
+  marked = has_right asked.delete (may_delete asked.access) right;
   lease = there;
 }
 
 -- An open under no lease is never durable.
-pub plain_fits : (t u : Table) (caller : Caller) (asked : Asked) → asked.lease ≡ None → IsFresh caller t → ((o : OpenRow) → IsIn o u.opens → IsIn o t.opens) → lives (view u) caller.sid ≡ true
+pub plain_fits : (t u : Table) (caller : Caller) (asked : Asked) → deletes_without_right asked ≡ false → asked.lease ≡ None → IsFresh caller t → ((o : OpenRow) → IsIn o u.opens → IsIn o t.opens) → lives (view u) caller.sid ≡ true
     → IsNewOpen (new_open caller asked false) u
-plain_fits t u caller asked bare fresh from live =
-    open_fits t u caller asked false fresh from live refl (ap (λ o. option_map_or (λ (n : LeaseName). list_any (λ (lease : LeaseRow). (lease.file == asked.file) && same_name lease.name n) u.leases) o true) bare)
+plain_fits t u caller asked right bare fresh from live =
+    open_fits t u caller asked false fresh from live right refl (ap (λ o. option_map_or (λ (n : LeaseName). list_any (λ (lease : LeaseRow). (lease.file == asked.file) && same_name lease.name n) u.leases) o true) bare)
 
-pub under_fits : (t u : Table) (caller : Caller) (asked : Asked) (durable : Bool) (name : LeaseName) → asked.lease ≡ Some name → IsFresh caller t → ((o : OpenRow) → IsIn o u.opens → IsIn o t.opens)
+pub under_fits : (t u : Table) (caller : Caller) (asked : Asked) (durable : Bool) → deletes_without_right asked ≡ false → (name : LeaseName) → asked.lease ≡ Some name → IsFresh caller t → ((o : OpenRow) → IsIn o u.opens → IsIn o t.opens)
     → lives (view u) caller.sid ≡ true → list_any (λ (lease : LeaseRow). (lease.file == asked.file) && same_name lease.name name) u.leases ≡ true → IsNewOpen (new_open caller asked durable) u
-under_fits t u caller asked durable name under fresh from live there =
+under_fits t u caller asked durable right name under fresh from live there =
     let row = new_open caller asked durable in
-    open_fits t u caller asked durable fresh from live
+    open_fits t u caller asked durable fresh from live right
     (ap (λ o. is_leased_if_durable (record row { lease = o })) under ∙ or_right (not (not (row.durable == 0))) true refl)
     (ap (λ o. option_map_or (λ (n : LeaseName). list_any (λ (lease : LeaseRow). (lease.file == asked.file) && same_name lease.name n) u.leases) o true) under ∙ there)

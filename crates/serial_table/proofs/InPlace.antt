@@ -16,9 +16,9 @@ use Rattle.serial_table.specs.declared.rows.Breaking.{Breaking}
 use Rattle.serial_table.specs.declared.table.Table.{Table}
 use Rattle.serial_table.specs.View.{view, lives, carries, is_of_file, is_range_of, has_name, has_id}
 use Rattle.serial_table.specs.File.{FileView, file_view, file_open, is_under}
-use Rattle.serial_table.specs.Settle.{settle_where, settled_lease, broken_to_needed, lacks_handle, keeps_open, keeps_range, keeps_lease, row_stays, range_stays, lease_settles, lease_stays}
-use Rattle.serial_table.specs.InPlace.{is_lease_of, is_under_lease, break_if_any_ends, lease_ends_break, lacks_lease, goes, goes_with, range_goes, lease_goes, without_what_goes, lacks_once_settled, goes_once_settled}
-use Rattle.serial_table.proofs.Filters.{filter-map, any_same, filter_all}
+use Rattle.serial_table.specs.Settle.{settle_where, settled_lease, broken_to_needed, lacks_handle, keeps_open, keeps_range, keeps_lease, keeps_pending, row_stays, range_stays, lease_settles, lease_stays, pending_stays}
+use Rattle.serial_table.specs.InPlace.{is_lease_of, is_under_lease, break_if_any_ends, lease_ends_break, lacks_lease, goes, goes_with, range_goes, lease_goes, pending_goes, without_what_goes, lacks_once_settled, goes_once_settled}
+use Rattle.serial_table.proofs.Filters.{filter-map, any_here, any_same, filter_all}
 use Rattle.serial_table.proofs.Views.{name-settled_lease, file-settled_lease}
 
 -- ---- lists
@@ -29,10 +29,6 @@ by_all p q xs h = ap (λ r. list_any r xs) (fun_ext h)
 pub any_in_map : {X Y : Type 0} (f : X → Y) (p : Y → Bool) (xs : List X) → list_any p (map f xs) ≡ list_any (λ x. p (f x)) xs
 any_in_map f p [] = refl
 any_in_map f p (x ∷ xs) = ap (λ b. p (f x) || b) (any_in_map f p xs)
-
-any_here : {X : Type 0} (b : Bool) (x : X) (p : X → Bool) (ys : List X) → list_any p (cond b (x ∷ ys) ys) ≡ ((b && p x) || list_any p ys)
-any_here true x p ys = refl
-any_here false x p ys = refl
 
 pub any_in_filter : {X : Type 0} (p c : X → Bool) (xs : List X) → list_any p (filter c xs) ≡ list_any (λ x. c x && p x) xs
 any_in_filter p c [] = refl
@@ -61,6 +57,14 @@ goes_not g false k e i = absurd cc
 under_case : (f u s k : Bool) → (f ≡ true → s ≡ k) → (s && (f && u)) ≡ (f && (u && k))
 under_case false u s k e = and-false s
 under_case true u s k e = and_comm s u ∙ ap (λ b. u && b) (e refl)
+
+here_case : (f s k : Bool) → (f ≡ true → s ≡ k) → (s && f) ≡ (f && k)
+here_case false s k e = and-false s
+here_case true s k e = and_comm s true ∙ e refl
+
+double : (h k : Bool) → (not h || not (not k)) ≡ (not h || k)
+double h true = refl
+double h false = refl
 
 -- ---- a break ends in the same way
 
@@ -153,35 +157,45 @@ module _ (here : ℕ → Bool) (t : Table) where
   range_same : (r : RangeRow) → not (range_goes here (goes here (lives (view t)) (map (lease_settles here (view t)) t.leases)) t.opens r) ≡ range_stays here (view t) r
   range_same r = not_both (here r.file) _ _ (ranges_in r)
 
-  -- ---- the leases that have no open
+  -- ---- the leases and the pending files that have no open
+
+  stays_at : (file : ℕ) → here file ≡ true → (o : OpenRow) → (o.file == file) ≡ true → row_stays here (view t) o ≡ keeps_open (file_view file (view t)) (file_open (lives (view t)) o)
+  stays_at file h o e =
+      let same = eqb-true o.file file e in
+      ap (λ b. not b || keeps_open (file_view o.file (view t)) (file_open (lives (view t)) o)) (ap here same ∙ h)
+      ∙ ap (λ f. keeps_open (file_view f (view t)) (file_open (lives (view t)) o)) same
+
+  pending_opens : (file : ℕ) → here file ≡ true → not (list_any (is_of_file file) (filter (row_stays here (view t)) t.opens)) ≡ not (keeps_pending (file_view file (view t)))
+  pending_opens file h = ap not (
+      any_in_filter (is_of_file file) (row_stays here (view t)) t.opens
+      ∙ by_all (λ o. row_stays here (view t) o && is_of_file file o) (λ o. is_of_file file o && keeps_open (file_view file (view t)) (file_open (lives (view t)) o)) t.opens
+      (λ o. here_case (o.file == file) (row_stays here (view t) o) (keeps_open (file_view file (view t)) (file_open (lives (view t)) o)) (stays_at file h o))
+      ∙ sym (any_in_filter (λ o. keeps_open (file_view file (view t)) (file_open (lives (view t)) o)) (is_of_file file) t.opens)
+      ∙ sym (any_in_map (file_open (lives (view t))) (keeps_open (file_view file (view t))) (filter (is_of_file file) t.opens)))
+
+  pending_same : (file : ℕ) → not (pending_goes here (filter (row_stays here (view t)) t.opens) file) ≡ pending_stays here (view t) file
+  pending_same file = not_both (here file) _ _ (pending_opens file) ∙ double (here file) (keeps_pending (file_view file (view t)))
 
   lease_opens : (l : LeaseRow) → here l.file ≡ true
       → not (list_any (is_under_lease l) (filter (row_stays here (view t)) t.opens)) ≡ not (keeps_lease (file_view l.file (view t)) l)
   lease_opens l h = ap not (
       any_in_filter (is_under_lease l) (row_stays here (view t)) t.opens
       ∙ by_all (λ o. row_stays here (view t) o && is_under_lease l o) (λ o. is_of_file l.file o && (carries l.name o.lease && keeps_open (file_view l.file (view t)) (file_open (lives (view t)) o))) t.opens
-      (λ o. under_case (o.file == l.file) (carries l.name o.lease) (row_stays here (view t) o) (keeps_open (file_view l.file (view t)) (file_open (lives (view t)) o)) (stays_at o))
+      (λ o. under_case (o.file == l.file) (carries l.name o.lease) (row_stays here (view t) o) (keeps_open (file_view l.file (view t)) (file_open (lives (view t)) o)) (stays_at l.file h o))
       ∙ sym (any_in_filter (λ o. carries l.name o.lease && keeps_open (file_view l.file (view t)) (file_open (lives (view t)) o)) (is_of_file l.file) t.opens)
       ∙ sym (any_in_map (file_open (lives (view t))) (λ o. is_under l.name o && keeps_open (file_view l.file (view t)) o) (filter (is_of_file l.file) t.opens)))
-    where
-      stays_at : (o : OpenRow) → (o.file == l.file) ≡ true → row_stays here (view t) o ≡ keeps_open (file_view l.file (view t)) (file_open (lives (view t)) o)
-      stays_at o e =
-          let same = eqb-true o.file l.file e in
-          ap (λ b. not b || keeps_open (file_view o.file (view t)) (file_open (lives (view t)) o)) (ap here same ∙ h)
-          ∙ ap (λ f. keeps_open (file_view f (view t)) (file_open (lives (view t)) o)) same
 
   lease_same_goes : (l : LeaseRow) → not (lease_goes here (filter (row_stays here (view t)) t.opens) l) ≡ lease_stays here (view t) l
   lease_same_goes l = not_both (here l.file) _ _ (lease_opens l) ∙ double (here l.file) (keeps_lease (file_view l.file (view t)) l)
-    where
-      double : (h k : Bool) → (not h || not (not k)) ≡ (not h || k)
-      double h true = refl
-      double h false = refl
 
 -- ---- the whole
 
--- the last step: the leases that have no open go
+-- the last step: the leases and the pending files that have no open go
 abbrev pub without_empty : (ℕ → Bool) → Table → Table
-without_empty here t = record t { leases = filter (λ l. not (lease_goes here t.opens l)) t.leases }
+without_empty here t = record t {
+  leases = filter (λ l. not (lease_goes here t.opens l)) t.leases;
+  pending = filter (λ file. not (pending_goes here t.opens file)) t.pending;
+}
 
 abbrev pub with_settled_leases : (ℕ → Bool) → Table → Table
 with_settled_leases here t = record t { leases = map (lease_ends_break here t.opens (lives (view t))) t.leases }
@@ -194,8 +208,12 @@ settles_in_place here t =
       opens = filter (λ o. open_same here t o i) t.opens;
       ranges = filter (λ r. range_same here t r i) t.ranges;
       leases = filter (λ l. not (lease_goes here (filter (λ o. open_same here t o i) t.opens) l)) (map (lease_settles here (view t)) t.leases);
+      pending = filter (λ file. not (pending_goes here (filter (λ o. open_same here t o i) t.opens) file)) t.pending;
     })
-    ∙ ap (λ stays. record (settle_where here t) { leases = filter stays (map (lease_settles here (view t)) t.leases) }) (fun_ext (lease_same_goes here t))
+    ∙ (λ i. record (settle_where here t) {
+      leases = filter (λ l. lease_same_goes here t l i) (map (lease_settles here (view t)) t.leases);
+      pending = filter (λ file. pending_same here t file i) t.pending;
+    })
 
 -- where nothing goes, nothing changes
 none_goes_here : (b c : Bool) → (b || c) ≡ false → b ≡ false

@@ -25,13 +25,13 @@ use Rattle.serial_table.specs.declared.table.Table.{Table}
 use Rattle.serial_table.specs.declared.change.Change.{Change}
 use Rattle.serial_table.specs.declared.change.Change.TheVariants as c
 use Rattle.serial_table.specs.Lists.{drop_first}
-use Rattle.serial_table.specs.View.{view, lives, has_pid, is_of_handle, is_to, is_end_of}
+use Rattle.serial_table.specs.View.{view, lives, has_pid, is_of_handle, is_to, is_end_of, names_file}
 use Rattle.serial_table.specs.File.{FileView, file_view, is_under}
-use Rattle.serial_table.specs.Settle.{settle_where, broken_to_needed, settled_lease, row_stays, range_stays, lease_settles, lease_stays}
-use Rattle.serial_table.specs.Change.{perform, perform_all, is_open, is_other_open, is_other_range, is_other_wait, new_owner, is_lease, set_lease, same_range, is_hold, set_hold, outlives, range_outlives, end_session, begin_session, end_at}
+use Rattle.serial_table.specs.Settle.{settle_where, broken_to_needed, settled_lease, row_stays, range_stays, lease_settles, lease_stays, pending_stays}
+use Rattle.serial_table.specs.Change.{perform, perform_all, is_open, is_other_open, is_other_range, is_other_wait, new_owner, is_lease, set_lease, same_range, is_hold, set_hold, with_pending, outlives, range_outlives, end_session, begin_session, end_at}
 use Rattle.sid_core.specs.Counting.{CountsFrom}
 use Rattle.serial_table.specs.Sound.{Fits, AllFit}
-use Rattle.serial_table.specs.InSets.{IsPid, IsSid, IsOpenRow, IsLeaseRow, IsBreaking, IsRangeRow, IsHoldRow, IsWaiterRow, IsPost, IsWorkerRow, IsEndedRow, names_worker, ended_sessions, ended_count, IsInSets, Brings, AllBring}
+use Rattle.serial_table.specs.InSets.{IsPid, IsSid, IsFileNumber, IsOpenRow, IsLeaseRow, IsBreaking, IsRangeRow, IsHoldRow, IsWaiterRow, IsPost, IsWorkerRow, IsEndedRow, names_worker, ended_sessions, ended_count, IsInSets, Brings, AllBring}
 use Rattle.serial_table.proofs.Filters.{find-map, filter_one_out}
 use Rattle.serial_table.proofs.Views.{pid-end_session, pid-begin_session}
 use Rattle.serial_table.proofs.Members.{all_of, all_by, none_of, some_same, in_filter, in_drop, found_in}
@@ -207,7 +207,7 @@ counted_begins setup t own moment k fit pid (Some w) f =
 
 module _ (setup : Setup) where
   pub in_sets-perform : (change : Change) (t : Table) → IsInSets setup t → Fits change t → Brings setup change t → IsInSets setup (perform change t)
-  unfolding settle_where
+  unfolding settle_where with_pending
   in_sets-perform (c.AddOpen o) t k fit own = record {
     opens = all_more (IsOpenRow setup) t.opens o k.opens own;
     leases = k.leases;
@@ -320,6 +320,34 @@ module _ (setup : Setup) where
     ended_in_order = k.ended_in_order;
     ended_all = k.ended_all;
     pending = k.pending;
+  }
+  in_sets-perform (c.AddPending file) t k fit own = record {
+    pending = cond_both (list_any (names_file file) t.pending) t.pending (t.pending ++ file ∷ []) (AllByRecursion (IsFileNumber setup)) (λ _. k.pending) (λ _. all_more (IsFileNumber setup) t.pending file k.pending own);
+    opens = k.opens;
+    leases = k.leases;
+    ranges = k.ranges;
+    holds = k.holds;
+    waiters = k.waiters;
+    letters = k.letters;
+    workers = k.workers;
+    all_workers = k.all_workers;
+    ended = k.ended;
+    ended_in_order = k.ended_in_order;
+    ended_all = k.ended_all;
+  }
+  in_sets-perform (c.DropPending file) t k fit own = record {
+    pending = all_kept (IsFileNumber setup) (λ pending. not (names_file file pending)) t.pending k.pending;
+    opens = k.opens;
+    leases = k.leases;
+    ranges = k.ranges;
+    holds = k.holds;
+    waiters = k.waiters;
+    letters = k.letters;
+    workers = k.workers;
+    all_workers = k.all_workers;
+    ended = k.ended;
+    ended_in_order = k.ended_in_order;
+    ended_all = k.ended_all;
   }
   in_sets-perform (c.AddHold hold) t k fit own = record {
     holds = all_more (IsHoldRow setup) t.holds hold k.holds (record { owner = sid_of setup t hold.owner k.workers fit.owner; key = own });
@@ -466,7 +494,7 @@ module _ (setup : Setup) where
     ended = k.ended;
     ended_in_order = k.ended_in_order;
     ended_all = k.ended_all;
-    pending = k.pending;
+    pending = all_kept (IsFileNumber setup) (pending_stays (λ file. true) (view t)) t.pending k.pending;
   }
 
   pub in_sets-perform_all : (cs : List Change) (t : Table) → IsInSets setup t → AllFit cs t → AllBring setup cs t → IsInSets setup (perform_all cs t)

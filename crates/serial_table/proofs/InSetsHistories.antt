@@ -20,6 +20,8 @@ use Rattle.serial_table.specs.Change.{perform_all}
 use Rattle.serial_table.specs.Decision.{waits_no_more, waits_now, settling, woken_by, conclude}
 use Rattle.serial_table.specs.Session.{end_of_session}
 use Rattle.serial_table.specs.Decide.{decide}
+use Rattle.serial_table.specs.Expire.{expired_by}
+use Rattle.serial_table.proofs.ExpiringFits.{expired_fits, expired_brings}
 use Rattle.serial_table.specs.Step.{declared_at}
 use Rattle.serial_table.specs.History.{start, start_workers, after, IsLegal}
 use Rattle.serial_table.specs.Sound.{IsConsistent}
@@ -29,8 +31,8 @@ use Rattle.serial_table.proofs.Fitting.{DecisionFits, settling_fits, conclude_fi
 use Rattle.serial_table.proofs.EndingSessions.{death_fits, behind_letters}
 use Rattle.serial_table.proofs.Owing.{IsCallingInSets}
 use Rattle.serial_table.proofs.CallsOwed.{decided_brings}
-use Rattle.serial_table.proofs.Along.{KeptByCalls, KeptByDeaths, along_history}
-use Rattle.serial_table.proofs.Soundness.{IsReached, session_by, call_holds, calls_reach, deaths_reach, start_reached}
+use Rattle.serial_table.proofs.Along.{KeptByExpiry, KeptByCalls, KeptByDeaths, along_history}
+use Rattle.serial_table.proofs.Soundness.{IsReached, session_by, call_holds, expiries_reach, calls_reach, deaths_reach, start_reached}
 use Rattle.serial_table.proofs.Bounds.{declared_within}
 use Rattle.serial_table.proofs.InSets.{in_sets-perform_all}
 
@@ -60,8 +62,14 @@ record IsKept (setup : Setup) (low : ℕ → ℕ) (t : Table) : Type 0 where
   reached : IsReached low t
   in_sets : IsInSets setup t
 
+expiries_keep : (setup : Setup) → KeptByExpiry setup (IsKept setup)
+expiries_keep setup low t caller call k = record {
+  reached = expiries_reach setup low t caller call k.reached;
+  in_sets = in_sets-perform_all setup (expired_by setup (view t) caller call) t k.in_sets (expired_fits setup t caller call k.reached.consistent) (expired_brings setup t caller call k.reached.consistent);
+}
+
 calls_keep : (setup : Setup) → IsSetup setup → KeptByCalls setup (IsKept setup)
-calls_keep setup s low t by number moment call reply caller k legal of above =
+calls_keep setup s low t by number moment call caller k legal of above =
     let d = decide setup (view t) caller call in
     let few : IsU32 caller.number = (let n : caller.number ≡ number = of.number_is in let most : number ≤ 20000 = legal.numbered.1 in omega arith) in
     let session : IsU32 (caller.sid.session + 1) = (let up : caller.sid.session ≤ low caller.sid.pid + 1 = session_by low t caller k.reached.numbered of.alive in let most : low caller.sid.pid ≤ 20000 = k.reached.few caller.sid.pid in omega arith) in
@@ -78,8 +86,8 @@ calls_keep setup s low t by number moment call reply caller k legal of above =
     } in
     let brings = decided_brings setup t caller call calling legal.in_sets in
     record {
-      reached = calls_reach setup low t by number moment call reply caller k.reached legal of above;
-      in_sets = conclude_in_sets setup t d k.reached.consistent (call_holds setup low t by number moment call reply caller k.reached legal of above).fits k.in_sets brings.changes brings.waits brings.letters;
+      reached = calls_reach setup low t by number moment call caller k.reached legal of above;
+      in_sets = conclude_in_sets setup t d k.reached.consistent (call_holds setup low t by number moment call caller k.reached legal of above).fits k.in_sets brings.changes brings.waits brings.letters;
     }
 
 deaths_keep : (setup : Setup) → KeptByDeaths setup (IsKept setup)
@@ -146,4 +154,4 @@ start_kept setup s = record {
 
 pub legal_is_in_sets : (setup : Setup) (history : List Entry) → IsSetup setup → IsLegal setup history → IsInSets setup (after setup history)
 legal_is_in_sets setup history s legal =
-    (along_history setup s (IsKept setup) (calls_keep setup s) (deaths_keep setup) (λ pid. 0) (start setup) history (start_kept setup s) legal.entries (λ worker info d. legal.rising worker)).1.in_sets
+    (along_history setup s (IsKept setup) (expiries_keep setup) (calls_keep setup s) (deaths_keep setup) (λ pid. 0) (start setup) history (start_kept setup s) legal.entries (λ worker info d. legal.rising worker)).1.in_sets

@@ -7,6 +7,7 @@ use Rattle.sid_core.specs.declared.entry.Event.TheVariants.{Tidied}
 use Rattle.sid_core.specs.declared.reply.Reply.{Reply}
 use Rattle.sid_core.specs.declared.reply.Reply.TheVariants.{Done, FileClosed, SharingViolation}
 use Rattle.sid_core.specs.Counting.{CountsFrom, RisesAbove}
+use Rattle.serial_table.specs.Expire.{expired_by}
 use Rattle.serial_table.specs.declared.table.Table.{Table}
 use Rattle.serial_table.specs.View.{view}
 use Rattle.serial_table.specs.Settle.{settle_where, settle_by_key}
@@ -52,7 +53,7 @@ history =
 
 -- Each entry is legal at its place. The moment of the last one is below that of the death: moments needn't rise.
 entries_are_legal : AreLegal setup (start setup) history
-unfolding conclude open_file open_by handle_breaks other_breaks break_each break_lease grant caller_of end_of_session end_session settle_where settle_by_key
+unfolding conclude expired_by open_file open_by handle_breaks other_breaks break_each break_lease grant caller_of end_of_session end_session settle_where settle_by_key
 entries_are_legal = (
   record {
     numbered = (lit≤ tt, lit≤ tt);
@@ -121,16 +122,16 @@ history_is_legal = record {
 
 -- Before the death: the open of worker 1 alone.
 table_before_the_death : (table_at setup history 3).opens ≡ record (plain 101 1 1 1) { access = record { 0 = 0x2 }; share = record { 0 = 2 }; opened = at 0 } ∷ []
-unfolding conclude open_file open_by handle_breaks other_breaks break_each break_lease grant caller_of settle_where settle_by_key
+unfolding conclude expired_by open_file open_by handle_breaks other_breaks break_each break_lease grant caller_of settle_where settle_by_key
 table_before_the_death = refl
 
 -- At the end: that of worker 2 alone, with the call's number as its handle and the call's moment.
 opens_at_the_end : (after setup history).opens ≡ record (plain 102 1 2 1) { access = record { 0 = 0x1 }; opened = at 4 } ∷ []
-unfolding conclude open_file open_by handle_breaks other_breaks break_each break_lease grant caller_of end_of_session end_session settle_where settle_by_key
+unfolding conclude expired_by open_file open_by handle_breaks other_breaks break_each break_lease grant caller_of end_of_session end_session settle_where settle_by_key
 opens_at_the_end = refl
 
 session_ended_at_its_moment : (after setup history).ended ≡ ended 101 1 5 ∷ []
-unfolding conclude open_file open_by handle_breaks other_breaks break_each break_lease grant caller_of end_of_session end_session settle_where settle_by_key
+unfolding conclude expired_by open_file open_by handle_breaks other_breaks break_each break_lease grant caller_of end_of_session end_session settle_where settle_by_key
 session_ended_at_its_moment = refl
 
 -- Whoever tidies a chain, it is legal and changes nothing.
@@ -177,11 +178,11 @@ now_open = record nothing_open { opens = plain 101 1 1 1 ∷ [] }
 
 -- A reply that isn't the table's.
 another_reply : IsLegalCall setup (start setup) 1 1 (at 0) (opens 1 0x2 2) SharingViolation → ⊥
-unfolding conclude open_file open_by handle_breaks other_breaks break_each break_lease grant caller_of
+unfolding conclude expired_by open_file open_by handle_breaks other_breaks break_each break_lease grant caller_of
 another_reply call = let no : Some granted ≡ Some SharingViolation = call.answered in cc
 
 closed_already : IsLegalCall setup (start setup) 1 1 (at 0) (Close 1) Done → ⊥
-unfolding conclude close caller_of
+unfolding conclude expired_by close caller_of
 closed_already call = let no : Some FileClosed ≡ Some Done = call.answered in cc
 
 -- A caller that is dead, and one that isn't declared.
@@ -205,7 +206,7 @@ number_20001 : (reply : Reply) → IsLegalCall setup nothing_open 1 20001 (at 60
 number_20001 reply call = omega (arith, call.numbered.1)
 
 number_20000 : IsLegalCall setup now_open 1 20000 (at 60) (Close 1) Done
-unfolding conclude close caller_of
+unfolding conclude expired_by close caller_of
 number_20000 = record { numbered = (lit≤ tt, lit≤ tt); timed = lit≤ tt; in_sets = lit< tt; answered = refl }
 
 -- Moments go to 9,999,999,999.
@@ -213,7 +214,7 @@ moment_too_late : (reply : Reply) → IsLegalCall setup nothing_open 1 1 (at 100
 moment_too_late reply call = omega (arith, call.timed)
 
 last_moment : IsLegalCall setup now_open 1 2 (at 9999999999) (Close 1) Done
-unfolding conclude close caller_of
+unfolding conclude expired_by close caller_of
 last_moment = record { numbered = (lit≤ tt, lit≤ tt); timed = lit≤ tt; in_sets = lit< tt; answered = refl }
 
 -- Two files are declared.
@@ -232,7 +233,7 @@ unknown_access reply call = let no : ◌≡◌ {A = ℕ} 1 0x201 = call.in_sets.
 
 -- A handle is its owner's: that of worker 1 is none of worker 2's.
 handle_of_another : answer_of setup (view now_open) 2 1 (at 60) (Close 1) ≡ Some FileClosed
-unfolding conclude close caller_of
+unfolding conclude expired_by close caller_of
 handle_of_another = refl
 
 -- ---- a death
@@ -254,9 +255,9 @@ death_too_late death = omega (arith, death.timed)
 
 -- Nobody dies twice in a history, or calls after its death.
 dies_twice : AreLegal setup (start setup) (dies 1 1 5 ∷ dies 1 2 5 ∷ []) → ⊥
-unfolding conclude caller_of end_of_session end_session settle_where settle_by_key
+unfolding conclude expired_by caller_of end_of_session end_session settle_where settle_by_key
 dies_twice legal = let no : false ≡ true = legal.1.0.dies in cc
 
 calls_after_its_death : AreLegal setup (start setup) (dies 1 1 5 ∷ calls 1 1 1 5 (Close 1) FileClosed ∷ []) → ⊥
-unfolding conclude close caller_of end_of_session end_session settle_where settle_by_key
+unfolding conclude expired_by close caller_of end_of_session end_session settle_where settle_by_key
 calls_after_its_death legal = let no : None ≡ Some FileClosed = legal.1.0.answered in cc

@@ -1,5 +1,7 @@
 pub mod Rewriting
 pub mod Filters
+pub mod SameIds
+pub mod Pending
 pub mod Runs
 pub mod Finding
 pub mod Scavenging
@@ -9,7 +11,7 @@ pub mod Tabling
 pub mod Names
 pub mod Views
 pub mod Members
-pub mod SameIds
+pub mod Going
 pub mod Living
 pub mod Consistent
 pub mod SettledSound
@@ -46,6 +48,7 @@ pub mod OwnWaits
 pub mod GlobalLockOwed
 pub mod RecvOwed
 pub mod CloseOwed
+pub mod DeleteOwed
 pub mod UnlockOwed
 pub mod BreaksOwed
 pub mod LockOwed
@@ -55,6 +58,9 @@ pub mod BreaksLeave
 pub mod GrantOwed
 pub mod OpenOwed
 pub mod CallsOwed
+pub mod Expiring
+pub mod ExpiringFits
+pub mod ExpiredTwice
 pub mod Along
 pub mod Soundness
 pub mod Counting
@@ -69,6 +75,8 @@ pub mod EndedOwners
 pub mod Calling
 pub mod Broken
 pub mod OpenSeen
+pub mod Unleased
+pub mod OneProof
 pub mod Samples
 pub mod SampleCalls
 pub mod CallsAt
@@ -95,8 +103,12 @@ mod LockHistoryExamples
 mod StatusHistoryExamples
 mod WorkingDay
 mod BreakExamples
+mod ExpiryExamples
+mod ExpiryHistoryExamples
 mod AckExamples
 mod OpenExamples
+mod DeleteExamples
+mod DeleteHistoryExamples
 mod RangeExamples
 mod GlobalLockExamples
 mod SessionCallExamples

@@ -46,7 +46,7 @@ use Rattle.serial_table.proofs.BreaksOwed.{PassesRows, rows_keep, rows_made, one
 -- what holds of each decision of an open's `lock`
 record HoldsOfEach (P : Decision → Type 0) (f : FileView) (caller : Caller) (span : Span) (mode : Mode) (row : OpenRow) : Type 0 where
   replies : (reply : Reply) → P (only_reply reply)
-  grants : passes_end span ≡ false → P (grant_range row span mode (break_others row.file f none_of_them row.lease))
+  grants : passes_end span ≡ false → P (grant_range row span mode (break_others caller.moment row.file f none_of_them row.lease))
   waits : (range : RangeRow) → P (wait_for_range caller row.file true (range_blocker f range))
 
 module _ (P : Decision → Type 0) (f : FileView) (caller : Caller) (span : Span) (mode : Mode) (row : OpenRow) (h : HoldsOfEach P f caller span mode row) where
@@ -82,7 +82,7 @@ blocker_lives t file range = of_found (find (λ o. has_id range.id o.row) f.open
         cond_both o.connected (Some o.row.owner) None (λ b. option_map_or (lives (view t)) b true ≡ true)
         (λ connected. ap (λ (y : FileOpen). lives (view t) y.row.owner) (sym x.2) ∙ ap (λ (y : FileOpen). y.connected) x.2 ∙ connected) (λ _. refl)
 
-module _ (t : Table) (row : OpenRow) (here : IsIn row t.opens) (span : Span) (mode : Mode) (waiters : List WaiterRow) where
+module _ (caller : Caller) (t : Table) (row : OpenRow) (here : IsIn row t.opens) (span : Span) (mode : Mode) (waiters : List WaiterRow) where
   abbrev f : FileView
   f = file_view row.file (view t)
 
@@ -93,7 +93,7 @@ module _ (t : Table) (row : OpenRow) (here : IsIn row t.opens) (span : Span) (mo
   locked = perform (c.AddRange (range_of row span mode)) u
 
   abbrev breaks : Breaks
-  breaks = break_others row.file f none_of_them row.lease
+  breaks = break_others caller.moment row.file f none_of_them row.lease
 
   range_fits : has_its_open t.opens (range_of row span mode) ≡ true
   range_fits = any_of (λ o. (o.file == row.file) && same_id o.id row.id) t.opens row here (and_from (row.file == row.file) (same_id row.id row.id) (eq-eqb row.file row.file refl) (same_id-refl row.id))
@@ -104,11 +104,11 @@ module _ (t : Table) (row : OpenRow) (here : IsIn row t.opens) (span : Span) (mo
   is_round : IsRound (grant_range row span mode breaks) (c.AddRange (range_of row span mode) ∷ []) breaks []
   is_round = record { changes = ap (λ cs. c.AddRange (range_of row span mode) ∷ cs) (sym (append-nil breaks.changes)); posts = refl; first = refl; later = refl }
 
-  module _ (low : ℕ → ℕ) (caller : Caller) (k : IsCalling low t caller) (left : own.IsLeft t caller ((view t).watches_on (RangesOf row.file)) waiters) where
+  module _ (low : ℕ → ℕ) (k : IsCalling low t caller) (left : own.IsLeft t caller ((view t).watches_on (RangesOf row.file)) waiters) where
     granted : DecisionHolds low u (grant_range row span mode breaks)
     granted =
         round_holds low row.file u left.consistent (grant_range row span mode breaks) (c.AddRange (range_of row span mode) ∷ []) breaks [] is_round (range_fits, tt)
-        (each_hold row.file none_of_them refl _ f locked shown (consistent-perform (c.AddRange (range_of row span mode)) u left.consistent range_fits)) tt (tt, tt) tt
+        (each_hold caller.moment row.file none_of_them refl _ f locked shown (consistent-perform (c.AddRange (range_of row span mode)) u left.consistent range_fits)) tt (tt, tt) tt
         (record { rows = omega arith; bits = omega arith; spots = spots_differ row.file }) (λ x same. tt) (λ x. tt)
 
     waiting : (range : RangeRow) → DecisionHolds low u (wait_for_range caller row.file true (range_blocker f range))
@@ -119,7 +119,7 @@ module _ (t : Table) (row : OpenRow) (here : IsIn row t.opens) (span : Span) (mo
       adds = adds_rows u (wait_for_range caller row.file true (range_blocker f range)) left.consistent tt (omega arith) (omega arith) (omega arith) (omega arith) (omega arith) tt;
     }
 
-  module _ (setup : Setup) (caller : Caller) (k : IsCallingInSets setup t caller) (is : IsSpan span) where
+  module _ (setup : Setup) (k : IsCallingInSets setup t caller) (is : IsSpan span) where
     in_sets : IsOpenRow setup row
     in_sets = all_of (IsOpenRow setup) t.opens k.in_sets.opens row here
 
@@ -127,7 +127,7 @@ module _ (t : Table) (row : OpenRow) (here : IsIn row t.opens) (span : Span) (mo
     range_in_sets e = record { id = in_sets.id; file = in_sets.file; span = is; end = ltb-false (2 ^ 64) (span.start + span.length) e }
 
     broken : BreaksBring setup breaks
-    broken = each_brings setup row.file none_of_them refl _ f t (shows_itself row.file t) k.consistent k.in_sets
+    broken = each_brings setup caller.moment k.moment row.file none_of_them refl _ f t (shows_itself row.file t) k.consistent k.in_sets
 
     brought : HoldsOfEach (DecisionBrings setup u) f caller span mode row
     brought = record {
@@ -150,8 +150,8 @@ first_holds low t caller span mode wait (row ∷ rows) k there =
     own.own_holds t caller f.range_watches (lock_range f caller span mode wait row) low k.consistent
     (λ waiters left. of_lock (DecisionHolds low (record t { waiters = waiters })) f caller span mode row (record {
       replies = λ reply. reply_holds low (record t { waiters = waiters }) reply left.consistent;
-      grants = λ _. granted t row here span mode waiters low caller k left;
-      waits = λ range. waiting t row here span mode waiters low caller k left range;
+      grants = λ _. granted caller t row here span mode waiters low k left;
+      waits = λ range. waiting caller t row here span mode waiters low k left range;
     }) wait)
 
 pub lock_holds : (low : ℕ → ℕ) (t : Table) (caller : Caller) (handle : ℕ) (span : Span) (mode : Mode) (wait : Bool) → IsCalling low t caller → DecisionHolds low t (lock (view t) caller handle span mode wait)
@@ -164,7 +164,7 @@ first_brings setup t caller span mode wait [] k is there = reply_brings setup t 
 first_brings setup t caller span mode wait (row ∷ rows) k is there =
     let f = file_view row.file (view t) in
     own.own_brings t caller f.range_watches (lock_range f caller span mode wait row) setup
-    (λ waiters. of_lock (DecisionBrings setup (record t { waiters = waiters })) f caller span mode row (brought t row (there row (inl refl)) span mode waiters setup caller k is) wait)
+    (λ waiters. of_lock (DecisionBrings setup (record t { waiters = waiters })) f caller span mode row (brought caller t row (there row (inl refl)) span mode waiters setup k is) wait)
 
 pub lock_brings : (setup : Setup) (t : Table) (caller : Caller) (handle : ℕ) (span : Span) (mode : Mode) (wait : Bool) → IsCallingInSets setup t caller → IsSpan span
     → DecisionBrings setup t (lock (view t) caller handle span mode wait)
@@ -180,7 +180,7 @@ first_passes p h v caller span mode wait (row ∷ rows) =
     own_pass p h caller f.range_watches (lock_range f caller span mode wait row)
     (of_lock (λ d. list_all p d.changes ≡ true) f caller span mode row (record {
       replies = λ reply. refl;
-      grants = λ _. one_passes p h _ _ (h.ranged _) (each_passes p h row.file f none_of_them _);
+      grants = λ _. one_passes p h _ _ (h.ranged _) (each_passes p h caller.moment row.file f none_of_them _);
       waits = λ range. refl;
     }) wait)
 

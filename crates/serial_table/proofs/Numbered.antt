@@ -156,6 +156,8 @@ numbered-perform low (c.SetLease file name held breaking) t n fit own = record {
 numbered-perform low (c.Acknowledge file name state) t n fit own = record { opens = n.opens; holds = n.holds; waiters = n.waiters; letters = n.letters; workers = n.workers; ended = n.ended }
 numbered-perform low (c.AddRange range) t n fit own = record { opens = n.opens; holds = n.holds; waiters = n.waiters; letters = n.letters; workers = n.workers; ended = n.ended }
 numbered-perform low (c.DropRange range) t n fit own = record { opens = n.opens; holds = n.holds; waiters = n.waiters; letters = n.letters; workers = n.workers; ended = n.ended }
+numbered-perform low (c.AddPending file) t n fit own = record { opens = n.opens; holds = n.holds; waiters = n.waiters; letters = n.letters; workers = n.workers; ended = n.ended }
+numbered-perform low (c.DropPending file) t n fit own = record { opens = n.opens; holds = n.holds; waiters = n.waiters; letters = n.letters; workers = n.workers; ended = n.ended }
 numbered-perform low (c.AddHold hold) t n fit own = record {
   holds = more (λ hold. IsSessionUpTo low hold.owner) t.holds hold n.holds (session_of low t hold.owner n fit.owner);
   opens = n.opens;

@@ -14,12 +14,12 @@ use Rattle.sid_core.specs.declared.ids.Sid.{Sid}
 use Rattle.sid_core.specs.declared.ids.LeaseName.{LeaseName}
 use Rattle.sid_core.specs.declared.ids.Spot.TheVariants.{OpenOf}
 use Rattle.sid_core.specs.declared.reply.Reply.{Reply}
-use Rattle.sid_core.specs.declared.reply.Reply.TheVariants.{SharingViolation, InvalidParameter}
+use Rattle.sid_core.specs.declared.reply.Reply.TheVariants.{SharingViolation, InvalidParameter, AccessDenied, DeletePending}
 use Rattle.sid_core.specs.declared.setup.Setup.{Setup}
 use Rattle.sid_core.specs.Setup.{IsSetup}
 use Rattle.sid_core.specs.Call.{IsCall}
 use Rattle.sid_core.specs.Words.{lease_state}
-use Rattle.sid_core.specs.Values.{IsU32, IsU64, IsAccess, IsShare, IsState, is_state}
+use Rattle.sid_core.specs.Values.{IsU32, IsU64, IsAccess, IsShare, IsState, IsMoment, is_state}
 use Rattle.serial_table.specs.declared.rows.WaiterRow.{WaiterRow}
 use Rattle.serial_table.specs.declared.table.Table.{Table}
 use Rattle.serial_table.specs.declared.change.Change.{Change}
@@ -32,7 +32,7 @@ use Rattle.serial_table.specs.Change.{perform_all}
 use Rattle.serial_table.specs.Local.{perform_all_in_file}
 use Rattle.serial_table.specs.Decision.{only_reply}
 use Rattle.serial_table.specs.Break.{Breaks, no_break, both, first_of, names_of, all_but_handle, all_but_write, none_of_them}
-use Rattle.serial_table.specs.Asked.{Asked, own_lease, asked_of, is_stat, is_elsewhere, in_conflict, refuses}
+use Rattle.serial_table.specs.Asked.{Asked, own_lease, asked_of, is_stat, deletes_without_right, is_elsewhere, in_conflict, refuses}
 use Rattle.serial_table.specs.Grant.{LeaseGrant, grant_lease, is_durable, new_open, grant_plain, grant_under, grant_by, grant}
 use Rattle.serial_table.specs.Open.{handle_breaks, other_breaks, wait_for_open, wait_or_grant, go_on, open_by, open_file}
 use Rattle.serial_table.specs.Sound.{IsConsistent, IsNewOpen}
@@ -71,34 +71,36 @@ record HoldsOfEach (P : Decision → Type 0) (elsewhere : Bool) (f : FileView) (
   replies : (reply : Reply) → P (only_reply reply)
   waits_first : (blocker : Sid) → (handle_breaks f asked).blocker ≡ Some blocker → P (wait_for_open caller asked (handle_breaks f asked) blocker)
   waits : (blocker : Sid) → (all_breaks f asked).blocker ≡ Some blocker → P (wait_for_open caller asked (all_breaks f asked) blocker)
-  plain : asked.lease ≡ None → P (grant_plain caller asked (all_breaks f asked))
-  under : elsewhere ≡ false → (name : LeaseName) → asked.lease ≡ Some name
+  plain : deletes_without_right asked ≡ false → asked.lease ≡ None → P (grant_plain caller asked (all_breaks f asked))
+  under : deletes_without_right asked ≡ false → elsewhere ≡ false → (name : LeaseName) → asked.lease ≡ Some name
       → P (grant_under caller asked (all_breaks f asked) (grant_lease (all_broken f asked) asked name) (is_durable asked (grant_lease (all_broken f asked) asked name)))
 
 module _ (P : Decision → Type 0) (elsewhere : Bool) (f : FileView) (caller : Caller) (asked : Asked) (h : HoldsOfEach P elsewhere f caller asked) where
-  of_grant : elsewhere ≡ false → P (grant (all_broken f asked) caller asked (all_breaks f asked))
+  of_grant : deletes_without_right asked ≡ false → elsewhere ≡ false → P (grant (all_broken f asked) caller asked (all_breaks f asked))
   unfolding grant
-  of_grant e = by_lease asked.lease refl
+  of_grant right e = by_lease asked.lease refl
     where
       by_lease : (lease : Option LeaseName) → asked.lease ≡ lease → P (grant_by (all_broken f asked) caller asked (all_breaks f asked) lease)
-      by_lease None bare = h.plain bare
-      by_lease (Some name) is = h.under e name is
+      by_lease None bare = h.plain right bare
+      by_lease (Some name) is = h.under right e name is
 
-  of_later : elsewhere ≡ false → (handle_breaks f asked).blocker ≡ None → (blocker : Option Sid) → (other_breaks (first_broken f asked) asked).blocker ≡ blocker
+  of_later : deletes_without_right asked ≡ false → elsewhere ≡ false → (handle_breaks f asked).blocker ≡ None → (blocker : Option Sid) → (other_breaks (first_broken f asked) asked).blocker ≡ blocker
       → P (wait_or_grant f caller asked (all_breaks f asked) blocker)
-  of_later e first None later = of_grant e
-  of_later e first (Some blocker) later = h.waits blocker (λ i. first_of (first i) (later i))
+  of_later right e first None later = of_grant right e
+  of_later right e first (Some blocker) later = h.waits blocker (λ i. first_of (first i) (later i))
 
-  of_first : elsewhere ≡ false → (blocker : Option Sid) → (handle_breaks f asked).blocker ≡ blocker → P (go_on f caller asked (handle_breaks f asked) blocker)
-  of_first e (Some blocker) first = h.waits_first blocker first
-  of_first e None first = of_later e first (other_breaks (first_broken f asked) asked).blocker refl
+  of_first : deletes_without_right asked ≡ false → elsewhere ≡ false → (blocker : Option Sid) → (handle_breaks f asked).blocker ≡ blocker → P (go_on f caller asked (handle_breaks f asked) blocker)
+  of_first right e (Some blocker) first = h.waits_first blocker first
+  of_first right e None first = of_later right e first (other_breaks (first_broken f asked) asked).blocker refl
 
   of_open : P (open_by elsewhere f caller asked)
   unfolding open_by
   of_open =
-      cond_both elsewhere (only_reply InvalidParameter) _ P (λ _. h.replies _)
-      (λ e. cond_both (list_any (refuses f asked) (in_conflict f asked)) (only_reply SharingViolation) (go_on f caller asked (handle_breaks f asked) (handle_breaks f asked).blocker) P (λ _. h.replies _)
-      (λ _. of_first e (handle_breaks f asked).blocker refl))
+      cond_both (deletes_without_right asked) (only_reply AccessDenied) _ P (λ _. h.replies _)
+      (λ right. cond_both elsewhere (only_reply InvalidParameter) _ P (λ _. h.replies _)
+      (λ e. cond_both f.pending (only_reply DeletePending) _ P (λ _. h.replies _)
+      (λ _. cond_both (list_any (refuses f asked) (in_conflict f asked)) (only_reply SharingViolation) (go_on f caller asked (handle_breaks f asked) (handle_breaks f asked).blocker) P (λ _. h.replies _)
+      (λ _. of_first right e (handle_breaks f asked).blocker refl))))
 
 -- ---- its breaks
 
@@ -109,23 +111,23 @@ kept_is false = refl
 module _ (asked : Asked) (f : FileView) (t : Table) (s : Shows asked.file f t) (k : IsConsistent t) where
   handle_hold : BreaksHold asked.file t (handle_breaks f asked)
   unfolding handle_breaks
-  handle_hold = each_hold asked.file all_but_handle refl (names_of (in_conflict f asked)) f t s k
+  handle_hold = each_hold asked.moment asked.file all_but_handle refl (names_of (in_conflict f asked)) f t s k
 
   others_hold : BreaksHold asked.file t (other_breaks f asked)
   unfolding other_breaks
   others_hold =
       cond_both (is_stat asked.access && not asked.overwrite) no_break _ (BreaksHold asked.file t) (λ _. record { fit = no_break_fits asked.file (lives (view t)); lose = omega arith })
-      (λ _. each_hold asked.file _ (kept_is asked.overwrite) _ f t s k)
+      (λ _. each_hold asked.moment asked.file _ (kept_is asked.overwrite) _ f t s k)
 
-  module _ (setup : Setup) (n : IsInSets setup t) where
+  module _ (setup : Setup) (timed : IsMoment asked.moment.0) (n : IsInSets setup t) where
     handle_bring : BreaksBring setup (handle_breaks f asked)
     unfolding handle_breaks
-    handle_bring = each_brings setup asked.file all_but_handle refl (names_of (in_conflict f asked)) f t s k n
+    handle_bring = each_brings setup asked.moment timed asked.file all_but_handle refl (names_of (in_conflict f asked)) f t s k n
 
     others_bring : BreaksBring setup (other_breaks f asked)
     unfolding other_breaks
     others_bring =
-        cond_both (is_stat asked.access && not asked.overwrite) no_break _ (BreaksBring setup) (λ _. no_break_brings setup) (λ _. each_brings setup asked.file _ (kept_is asked.overwrite) _ f t s k n)
+        cond_both (is_stat asked.access && not asked.overwrite) no_break _ (BreaksBring setup) (λ _. no_break_brings setup) (λ _. each_brings setup asked.moment timed asked.file _ (kept_is asked.overwrite) _ f t s k n)
 
 module _ (asked : Asked) (f : FileView) (t : Table) (s : Shows asked.file f t) (k : IsConsistent t) where
   all_hold : BreaksHold asked.file t (all_breaks f asked)
@@ -135,13 +137,13 @@ module _ (asked : Asked) (f : FileView) (t : Table) (s : Shows asked.file f t) (
       both_hold asked.file t first (other_breaks (first_broken f asked) asked) hold
       (others_hold asked (first_broken f asked) (perform_all first.changes t) (shows-perform_all asked.file first.changes f t hold.fit.inside s) (consistent-perform_all first.changes t k (hold.fit.fits t)))
 
-  all_bring : (setup : Setup) → IsInSets setup t → BreaksBring setup (all_breaks f asked)
-  all_bring setup n =
+  all_bring : (setup : Setup) → IsMoment asked.moment.0 → IsInSets setup t → BreaksBring setup (all_breaks f asked)
+  all_bring setup timed n =
       let first = handle_breaks f asked in
       let hold = handle_hold asked f t s k in
-      let brought = handle_bring asked f t s k setup n in
+      let brought = handle_bring asked f t s k setup timed n in
       both_bring setup first (other_breaks (first_broken f asked) asked) brought
-      (others_bring asked (first_broken f asked) (perform_all first.changes t) (shows-perform_all asked.file first.changes f t hold.fit.inside s) (consistent-perform_all first.changes t k (hold.fit.fits t)) setup
+      (others_bring asked (first_broken f asked) (perform_all first.changes t) (shows-perform_all asked.file first.changes f t hold.fit.inside s) (consistent-perform_all first.changes t k (hold.fit.fits t)) setup timed
       (in_sets-perform_all setup first.changes t n (hold.fit.fits t) (brought.changes t)))
 
   -- the table as they leave it
@@ -204,16 +206,16 @@ module _ (low : ℕ → ℕ) (t : Table) (caller : Caller) (asked : Asked) (k : 
       ))
       (λ x. (k.number, tt))
 
-  plain_holds : asked.lease ≡ None → DecisionHolds low u (grant_plain caller asked (all_breaks f asked))
-  plain_holds bare =
+  plain_holds : deletes_without_right asked ≡ false → asked.lease ≡ None → DecisionHolds low u (grant_plain caller asked (all_breaks f asked))
+  plain_holds right bare =
       let row = new_open caller asked false in
       round_holds low asked.file u left.consistent (grant_plain caller asked (all_breaks f asked)) [] (all_breaks f asked) (c.AddOpen row ∷ []) (plain_round caller asked (all_breaks f asked)) tt hold
-      (plain_fits t u2 caller asked bare k.fresh comes.opens alive, tt) tt ((k.number, k.number), tt)
+      (plain_fits t u2 caller asked right bare k.fresh comes.opens alive, tt) tt ((k.number, k.number), tt)
       (record { rows = omega (arith, sum_by-cons brings (c.AddOpen row) []); bits = omega (arith, sum_by-cons adds_bits (c.AddOpen row) []); spots = spots_differ asked.file }) (λ x same. tt) (λ x. tt)
 
-  under_holds : IsState asked.state.0 → is_elsewhere (view t) asked ≡ false → (name : LeaseName) → asked.lease ≡ Some name
+  under_holds : IsState asked.state.0 → deletes_without_right asked ≡ false → is_elsewhere (view t) asked ≡ false → (name : LeaseName) → asked.lease ≡ Some name
       → DecisionHolds low u (grant_under caller asked (all_breaks f asked) (grant_lease (all_broken f asked) asked name) (is_durable asked (grant_lease (all_broken f asked) asked name)))
-  under_holds is here name under =
+  under_holds is right here name under =
       let lease = grant_lease (all_broken f asked) asked name in
       let durable = is_durable asked lease in
       let row = new_open caller asked durable in
@@ -221,7 +223,7 @@ module _ (low : ℕ → ℕ) (t : Table) (caller : Caller) (asked : Asked) (k : 
       lease_holds u u2 (all_broken f asked) asked name (still_consistent asked f u shown left.consistent) (still_shown asked f u shown left.consistent) is comes under here in
       let u3 = perform_all lease.changes u2 in
       let live : lives (view u3) caller.sid ≡ true = same_lives u2 u3 (same_rows lease.changes u2 owed.of_rows) caller.sid ∙ alive in
-      let new : IsNewOpen row u3 = under_fits t u3 caller asked durable name under k.fresh (λ o i. comes.opens o (subst (IsIn o) owed.opens i)) live owed.there in
+      let new : IsNewOpen row u3 = under_fits t u3 caller asked durable right name under k.fresh (λ o i. comes.opens o (subst (IsIn o) owed.opens i)) live owed.there in
       round_holds low asked.file u left.consistent (grant_under caller asked (all_breaks f asked) lease durable) [] (all_breaks f asked) (lease.changes ++ c.AddOpen row ∷ [])
       (under_round caller asked (all_breaks f asked) lease durable owed.of_rows) tt hold (fit_append lease.changes (c.AddOpen row ∷ []) u2 owed.fits (new, tt)) tt
       (along_append (Numbers low) lease.changes (c.AddOpen row ∷ []) u2 (owed.numbers low) ((k.number, k.number), tt))
@@ -242,8 +244,8 @@ open_holds low t caller asked k is =
       replies = λ reply. reply_holds low (record t { waiters = waiters }) reply left.consistent;
       waits_first = λ blocker e. waits_hold low t caller asked k waiters left (handle_breaks f asked) (handle_hold asked f (record t { waiters = waiters }) (record { opens = refl; leases = refl }) left.consistent) blocker e;
       waits = λ blocker e. waits_hold low t caller asked k waiters left (all_breaks f asked) (hold low t caller asked k waiters left) blocker e;
-      plain = λ bare. plain_holds low t caller asked k waiters left bare;
-      under = λ here name under. under_holds low t caller asked k waiters left is here name under;
+      plain = λ right bare. plain_holds low t caller asked k waiters left right bare;
+      under = λ right here name under. under_holds low t caller asked k waiters left is right here name under;
     }))
 
 -- ---- sets
@@ -256,14 +258,15 @@ pub record IsAskedInSets (setup : Setup) (asked : Asked) : Type 0 where
   pub lease : IfSome asked.lease IsLeaseName
   pub state : IsState asked.state.0
   pub durable : IsU32 asked.durable
+  pub moment : IsMoment asked.moment.0
 
 pub state_asked : (lease : Option LeaseAsk) → IfSome lease (λ ask. IsU64 ask.key × IsState ask.state.0) → IsState (option_map_or (λ (ask : LeaseAsk). ask.state) lease (lease_state 0)).0
 state_asked None is = refl
 state_asked (Some ask) is = is.1
 
-pub asked_in_sets : (setup : Setup) (caller : Caller) (file : ℕ) (access : Access) (share : Share) (lease : Option LeaseAsk) (durable : ℕ) (overwrite delete : Bool) → IsSetup setup → IsU64 caller.guid
-    → IsCall setup (OpenFile file access share lease durable overwrite delete) → IsAskedInSets setup (asked_of caller file access share lease durable overwrite)
-asked_in_sets setup caller file access share lease durable overwrite delete s guid is =
+pub asked_in_sets : (setup : Setup) (caller : Caller) (file : ℕ) (access : Access) (share : Share) (lease : Option LeaseAsk) (durable : ℕ) (overwrite delete : Bool) → IsSetup setup → IsU64 caller.guid → IsMoment caller.moment.0
+    → IsCall setup (OpenFile file access share lease durable overwrite delete) → IsAskedInSets setup (asked_of caller file access share lease durable overwrite delete)
+asked_in_sets setup caller file access share lease durable overwrite delete s guid timed is =
     let last : file ≤ length setup.files = is.0.1 in
     record {
       file = record { number = omega (arith, s.few_files); declared = is.0 };
@@ -272,6 +275,7 @@ asked_in_sets setup caller file access share lease durable overwrite delete s gu
       lease = named lease is.3;
       state = state_asked lease is.3;
       durable = is.4;
+      moment = timed;
     }
   where
     named : (lease : Option LeaseAsk) → IfSome lease (λ ask. IsU64 ask.key × IsState ask.state.0) → IfSome (option_map (λ (ask : LeaseAsk). own_lease caller ask.key) lease) IsLeaseName
@@ -299,14 +303,14 @@ module _ (setup : Setup) (t : Table) (caller : Caller) (asked : Asked) (k : IsCa
       let f = file_view asked.file (view t) in
       let u : Table = record t { waiters = waiters } in
       let shown = shows_itself asked.file t in
-      let breaks = all_bring asked f t shown k.consistent setup k.in_sets in
+      let breaks = all_bring asked f t shown k.consistent setup is.moment k.in_sets in
       record {
         replies = λ reply. reply_brings setup u reply;
         waits_first = λ blocker e. round_brings setup u (wait_for_open caller asked (handle_breaks f asked) blocker) [] (handle_breaks f asked) [] (wait_round caller asked (handle_breaks f asked) blocker) tt
-            (handle_bring asked f t shown k.consistent setup k.in_sets) tt (λ x. ((k.number, is.file), tt));
+            (handle_bring asked f t shown k.consistent setup is.moment k.in_sets) tt (λ x. ((k.number, is.file), tt));
         waits = λ blocker e. round_brings setup u (wait_for_open caller asked (all_breaks f asked) blocker) [] (all_breaks f asked) [] (wait_round caller asked (all_breaks f asked) blocker) tt breaks tt (λ x. ((k.number, is.file), tt));
-        plain = λ bare. round_brings setup u (grant_plain caller asked (all_breaks f asked)) [] (all_breaks f asked) (c.AddOpen (new_open caller asked false) ∷ []) (plain_round caller asked (all_breaks f asked)) tt breaks (new_in_sets false, tt) (λ x. tt);
-        under = λ here name under.
+        plain = λ right bare. round_brings setup u (grant_plain caller asked (all_breaks f asked)) [] (all_breaks f asked) (c.AddOpen (new_open caller asked false) ∷ []) (plain_round caller asked (all_breaks f asked)) tt breaks (new_in_sets false, tt) (λ x. tt);
+        under = λ right here name under.
             let lease = grant_lease (all_broken f asked) asked name in
             let durable = is_durable asked lease in
             let row = new_open caller asked durable in
@@ -330,11 +334,11 @@ open_brings setup t caller asked k is =
 module _ (p : Change → Bool) (h : PassesRows p) where
   handle_pass : (f : FileView) (asked : Asked) → list_all p (handle_breaks f asked).changes ≡ true
   unfolding handle_breaks
-  handle_pass f asked = each_passes p h asked.file f all_but_handle (names_of (in_conflict f asked))
+  handle_pass f asked = each_passes p h asked.moment asked.file f all_but_handle (names_of (in_conflict f asked))
 
   others_pass : (f : FileView) (asked : Asked) → list_all p (other_breaks f asked).changes ≡ true
   unfolding other_breaks
-  others_pass f asked = cond_both (is_stat asked.access && not asked.overwrite) no_break _ (λ (b : Breaks). list_all p b.changes ≡ true) (λ _. refl) (λ _. each_passes p h asked.file f _ _)
+  others_pass f asked = cond_both (is_stat asked.access && not asked.overwrite) no_break _ (λ (b : Breaks). list_all p b.changes ≡ true) (λ _. refl) (λ _. each_passes p h asked.moment asked.file f _ _)
 
   all_pass : (f : FileView) (asked : Asked) → list_all p (all_breaks f asked).changes ≡ true
   all_pass f asked = both_pass p h (handle_breaks f asked).changes (other_breaks (first_broken f asked) asked).changes (handle_pass f asked) (others_pass (first_broken f asked) asked)
@@ -348,8 +352,8 @@ module _ (p : Change → Bool) (h : PassesRows p) where
         replies = λ reply. refl;
         waits_first = λ blocker e. handle_pass f asked;
         waits = λ blocker e. all_pass f asked;
-        plain = λ bare. both_pass p h (all_breaks f asked).changes (c.AddOpen (new_open caller asked false) ∷ []) (all_pass f asked) (one_passes p h _ [] (h.opened _) refl);
-        under = λ here name under.
+        plain = λ right bare. both_pass p h (all_breaks f asked).changes (c.AddOpen (new_open caller asked false) ∷ []) (all_pass f asked) (one_passes p h _ [] (h.opened _) refl);
+        under = λ right here name under.
             let lease = grant_lease (all_broken f asked) asked name in
             both_pass p h (all_breaks f asked).changes _ (all_pass f asked) (both_pass p h lease.changes _ (lease_passes p h.leased h.set (all_broken f asked) asked name) (one_passes p h _ [] (h.opened _) refl));
       }))

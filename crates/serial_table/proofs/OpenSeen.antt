@@ -1,9 +1,9 @@
 -- `open` goes by the opens and leases that a file view has, and its later steps by what the first breaks have left.
-use Rattle.std.proofs.Common.{◌≡◌, ℕ, Bool, cond, [], ◌&&◌, not, filter, map, Option, Some, None, refl, sym, ap, ◌∙◌}
+use Rattle.std.proofs.Common.{◌≡◌, ℕ, cond, [], ◌&&◌, not, filter, map, Option, Some, None, refl, sym, ap, ◌∙◌}
 use Rattle.std.specs.List.{list_any, filter_map}
 use Rattle.sid_core.specs.declared.ids.Sid.{Sid}
 use Rattle.sid_core.specs.declared.ids.LeaseName.{LeaseName}
-use Rattle.sid_core.specs.declared.reply.Reply.TheVariants.{SharingViolation, InvalidParameter}
+use Rattle.sid_core.specs.declared.reply.Reply.TheVariants.{SharingViolation}
 use Rattle.serial_table.specs.declared.rows.OpenRow.{OpenRow}
 use Rattle.serial_table.specs.declared.table.Table.{Table}
 use Rattle.serial_table.specs.declared.decision.Caller.{Caller}
@@ -14,7 +14,7 @@ use Rattle.serial_table.specs.Decision.{only_reply}
 use Rattle.serial_table.specs.Break.{Breaks, no_break, both, first_of, break_each, names_of, each_once, all_but_handle, all_but_write, none_of_them}
 use Rattle.serial_table.specs.Asked.{Asked, is_stat, conflicts, in_conflict, refuses}
 use Rattle.serial_table.specs.Grant.{is_beside, grant, grant_by, grant_lease, grant_under, is_durable}
-use Rattle.serial_table.specs.Open.{handle_breaks, other_breaks, wait_or_grant, go_on, open_by}
+use Rattle.serial_table.specs.Open.{handle_breaks, other_breaks, wait_or_grant, go_on, open_shared}
 use Rattle.serial_table.specs.OpenAt.{row_conflicts, row_refuses, row_is_beside, wait_or_grant_at, go_further}
 use Rattle.serial_table.specs.Alone.{opens_and_leases, is_connected_under}
 use Rattle.serial_table.proofs.Filters.{map-filter}
@@ -34,12 +34,12 @@ module _ (caller : Caller) (asked : Asked) where
   handles_seen : (f g : FileView) → opens_and_leases f ≡ opens_and_leases g → handle_breaks f asked ≡ handle_breaks g asked
   unfolding handle_breaks
   handles_seen f g e =
-      seen-break_each asked.file all_but_handle (names_of (in_conflict f asked)) f g e
-      ∙ ap (λ (h : FileView). break_each asked.file g all_but_handle (names_of (in_conflict h asked))) e
+      seen-break_each asked.moment asked.file all_but_handle (names_of (in_conflict f asked)) f g e
+      ∙ ap (λ (h : FileView). break_each asked.moment asked.file g all_but_handle (names_of (in_conflict h asked))) e
 
   others_seen : (f g : FileView) → opens_and_leases f ≡ opens_and_leases g → other_breaks f asked ≡ other_breaks g asked
   unfolding other_breaks
-  others_seen f g e = ap (cond (is_stat asked.access && not asked.overwrite) no_break) (seen-break_others asked.file (cond asked.overwrite none_of_them all_but_write) asked.lease f g e)
+  others_seen f g e = ap (cond (is_stat asked.access && not asked.overwrite) no_break) (seen-break_others asked.moment asked.file (cond asked.overwrite none_of_them all_but_write) asked.lease f g e)
 
   wait_or_grant_seen : (f g : FileView) (done : Breaks) (blocker : Option Sid) → opens_and_leases f ≡ opens_and_leases g → wait_or_grant f caller asked done blocker ≡ wait_or_grant g caller asked done blocker
   wait_or_grant_seen f g done (Some blocker) e = refl
@@ -52,13 +52,12 @@ module _ (caller : Caller) (asked : Asked) where
       let after : Breaks = other_breaks (perform_all_in_file done.changes g) asked in
       ap (λ (o : Breaks). wait_or_grant f caller asked (both done o) o.blocker) others ∙ wait_or_grant_seen f g (both done after) after.blocker e
 
-  pub open_by_seen : (elsewhere : Bool) (f g : FileView) → opens_and_leases f ≡ opens_and_leases g → open_by elsewhere f caller asked ≡ open_by elsewhere g caller asked
-  unfolding open_by
-  open_by_seen elsewhere f g e =
+  pub open_shared_seen : (f g : FileView) → opens_and_leases f ≡ opens_and_leases g → open_shared f caller asked ≡ open_shared g caller asked
+  open_shared_seen f g e =
       let first = handles_seen f g e in
       let later = ap (λ (b : Breaks). go_on f caller asked b b.blocker) first ∙ go_on_seen f g (handle_breaks g asked) (handle_breaks g asked).blocker e in
       let refused = ap (λ (h : FileView). list_any (refuses h asked) (in_conflict h asked)) e in
-      λ i. cond elsewhere (only_reply InvalidParameter) (cond (refused i) (only_reply SharingViolation) (later i))
+      λ i. cond (refused i) (only_reply SharingViolation) (later i)
 
   -- ---- the later steps
 
@@ -88,6 +87,9 @@ module _ (t : Table) (asked : Asked) where
 
   pub beside_is : list_any (row_is_beside asked) (filter (is_of_file asked.file) t.opens) ≡ list_any (is_beside asked) (file_view asked.file (view t)).opens
   beside_is = sym (any_in_map (file_open (lives (view t))) (is_beside asked) (filter (is_of_file asked.file) t.opens))
+
+  pub conflict_is : list_any (row_conflicts asked) (filter (is_of_file asked.file) t.opens) ≡ list_any (conflicts asked) (file_view asked.file (view t)).opens
+  conflict_is = sym (any_in_map (file_open (lives (view t))) (conflicts asked) (filter (is_of_file asked.file) t.opens))
 
   pub names_in_conflict_is : each_once [] (filter_map (λ (o : OpenRow). o.lease) (filter (row_conflicts asked) (filter (is_of_file asked.file) t.opens))) ≡ names_of (in_conflict (file_view asked.file (view t)) asked)
   names_in_conflict_is =

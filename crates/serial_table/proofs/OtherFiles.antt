@@ -1,4 +1,5 @@
--- Changes that touch no open and no lease of other files than one leave each other file settled: so it is enough to settle that one.
+-- Changes that touch no open, no lease and no pending mark of other files than one leave each other file settled: so it is enough to
+-- settle that one.
 use Rattle.std.proofs.Common.{◌≡◌, ◌==◌, ◌&&◌, not, ℕ, Bool, true, false, List, [], ◌∷◌, ◌++◌, filter, map, Option, Some, None, refl, sym, ap, ◌∙◌, subst, eq-eqb}
 use Rattle.std.specs.Prelude.{unwrap_or}
 use Rattle.std.specs.List.{list_all, list_any}
@@ -27,14 +28,15 @@ use Rattle.serial_table.proofs.Members.{all_of, any_none}
 use Rattle.serial_table.proofs.Every.{all_kept}
 use Rattle.serial_table.proofs.Views.{view-perform, file-new_owner}
 use Rattle.serial_table.proofs.Files.{file_view-perform, is_lease_of}
-use Rattle.serial_table.proofs.Apart.{of_other, not_of, not_it, leases_apart}
+use Rattle.serial_table.proofs.Apart.{of_other, not_of, not_it, leases_apart, pending_apart, unpending_apart}
 use Rattle.serial_table.proofs.Settled.{IsSettled, settle_only, files_settled}
 
--- Nobody comes to live or dies, and the opens and leases of other files stay: ranges, holds, waiters and letters may be of any.
+-- Nobody comes to live or dies, and the opens and leases of other files stay, and whether they are to go: ranges, holds, waiters and
+-- letters may be of any.
 abbrev pub leaves_others : ℕ → Change → Bool
 leaves_others file change = keeps_workers change && option_map_or (λ named. named == file) (file_of_change change) true
 
--- ---- a file is settled by its opens and leases
+-- ---- a file is settled by its opens and leases, and by whether it is to go
 
 -- where all opens stay, each range does
 every_range : (f : FileView) → settle_file f ≡ f → (range : RangeRow) → keeps_range f range ≡ true
@@ -50,14 +52,14 @@ with_others : (f : FileView) (ranges : List RangeRow) (open_watches range_watche
 unfolding settle_file
 with_others f ranges open_watches range_watches s =
     let kept = filter_all (keeps_range f) (every_range f s) ranges in
-    λ i. record { opens = (s i).opens; leases = (s i).leases; ranges = kept i; open_watches = open_watches; range_watches = range_watches }
+    λ i. record { opens = (s i).opens; leases = (s i).leases; ranges = kept i; open_watches = open_watches; range_watches = range_watches; pending = (s i).pending }
 
 still_settled : (g : ℕ) (t u : Table) → (file_view g (view u)).opens ≡ (file_view g (view t)).opens → ((name : LeaseName) → (file_view g (view u)).leases name ≡ (file_view g (view t)).leases name)
-    → IsSettled t g → IsSettled u g
-still_settled g t u opens leases s =
+    → (view u).is_pending g ≡ (view t).is_pending g → IsSettled t g → IsSettled u g
+still_settled g t u opens leases pending s =
     let shown = file_view g (view u) in
     let same : shown ≡ record (file_view g (view t)) { ranges = shown.ranges; open_watches = shown.open_watches; range_watches = shown.range_watches } =
-    λ i. record shown { opens = opens i; leases = λ name. leases name i } in
+    λ i. record shown { opens = opens i; leases = λ name. leases name i; pending = pending i } in
     ap settle_file same ∙ with_others (file_view g (view t)) shown.ranges shown.open_watches shown.range_watches s ∙ sym same
 
 -- ---- one change
@@ -76,35 +78,37 @@ owners_apart f g id owner handle d rows =
 -- Another file that was settled still is.
 pub leaves_settled : (f g : ℕ) (change : Change) (t : Table) → (f == g) ≡ false → leaves_others f change ≡ true → IsSettled t g → IsSettled (perform change t) g
 leaves_settled f g (c.AddOpen row) t d e s =
-    still_settled g t (perform (c.AddOpen row) t) (ap (map (file_open (lives (view t)))) (filter_one_out (is_of_file g) row t.opens (of_other f g row.file d e))) (λ name. refl) s
+    still_settled g t (perform (c.AddOpen row) t) (ap (map (file_open (lives (view t)))) (filter_one_out (is_of_file g) row t.opens (of_other f g row.file d e))) (λ name. refl) refl s
 leaves_settled f g (c.DropOpen h id) t d e s =
     let apart = of_other f g h d e in
-    still_settled g t (perform (c.DropOpen h id) t) (ap (map (file_open (lives (view t)))) (filter_absorbed (is_of_file g) (is_other_open h id) (λ x k. not_it h g x.file (same_id x.id id) apart k) t.opens)) (λ name. refl) s
+    still_settled g t (perform (c.DropOpen h id) t) (ap (map (file_open (lives (view t)))) (filter_absorbed (is_of_file g) (is_other_open h id) (λ x k. not_it h g x.file (same_id x.id id) apart k) t.opens)) (λ name. refl) refl s
 leaves_settled f g (c.TakeOver h id owner handle) t d e s =
     let u : Table = record t { opens = map (new_owner h id owner handle) t.opens } in
     cond_both (list_any (is_of_handle owner handle) t.opens) t u (λ (x : Table). IsSettled x g) (λ _. s)
-    (λ _. still_settled g t u (ap (map (file_open (lives (view t)))) (owners_apart h g id owner handle (of_other f g h d e) t.opens)) (λ name. refl) s)
+    (λ _. still_settled g t u (ap (map (file_open (lives (view t)))) (owners_apart h g id owner handle (of_other f g h d e) t.opens)) (λ name. refl) refl s)
 leaves_settled f g (c.AddLease lease) t d e s =
     still_settled g t (perform (c.AddLease lease) t) refl
     (λ name. filter-filter (is_lease_of g) (has_name name) (t.leases ++ lease ∷ [])
     ∙ ap (filter (has_name name)) (filter_one_out (is_lease_of g) lease t.leases (of_other f g lease.file d e))
-    ∙ filter-filter (has_name name) (is_lease_of g) t.leases) s
+    ∙ filter-filter (has_name name) (is_lease_of g) t.leases) refl s
 leaves_settled f g (c.SetLease h name held breaking) t d e s =
     still_settled g t (perform (c.SetLease h name held breaking) t) refl
-    (λ n. ap (filter (is_lease_of g)) (ap (λ v. v.leases_of n) (view-perform (c.SetLease h name held breaking) t)) ∙ leases_apart h g name held breaking (of_other f g h d e) (filter (has_name n) t.leases)) s
+    (λ n. ap (filter (is_lease_of g)) (ap (λ v. v.leases_of n) (view-perform (c.SetLease h name held breaking) t)) ∙ leases_apart h g name held breaking (of_other f g h d e) (filter (has_name n) t.leases)) refl s
 leaves_settled f g (c.Acknowledge h name state) t d e s =
     still_settled g t (perform (c.Acknowledge h name state) t) refl
-    (λ n. ap (filter (is_lease_of g)) (ap (λ v. v.leases_of n) (view-perform (c.Acknowledge h name state) t)) ∙ leases_apart h g name state None (of_other f g h d e) (filter (has_name n) t.leases)) s
+    (λ n. ap (filter (is_lease_of g)) (ap (λ v. v.leases_of n) (view-perform (c.Acknowledge h name state) t)) ∙ leases_apart h g name state None (of_other f g h d e) (filter (has_name n) t.leases)) refl s
 leaves_settled f g c.Settle t d e s = let same = file_view-perform g c.Settle t refl ∙ s in ap settle_file same ∙ s ∙ sym same
-leaves_settled f g (c.AddRange range) t d e s = still_settled g t (perform (c.AddRange range) t) refl (λ name. refl) s
-leaves_settled f g (c.DropRange range) t d e s = still_settled g t (perform (c.DropRange range) t) refl (λ name. refl) s
-leaves_settled f g (c.AddHold hold) t d e s = still_settled g t (perform (c.AddHold hold) t) refl (λ name. refl) s
-leaves_settled f g (c.SetHold key owner mode) t d e s = still_settled g t (perform (c.SetHold key owner mode) t) refl (λ name. refl) s
-leaves_settled f g (c.DropHold key owner) t d e s = still_settled g t (perform (c.DropHold key owner) t) refl (λ name. refl) s
-leaves_settled f g (c.AddWaiter waiter) t d e s = still_settled g t (perform (c.AddWaiter waiter) t) refl (λ name. refl) s
-leaves_settled f g (c.DropWaiter sid call) t d e s = still_settled g t (perform (c.DropWaiter sid call) t) refl (λ name. refl) s
-leaves_settled f g (c.Send post) t d e s = still_settled g t (perform (c.Send post) t) refl (λ name. refl) s
-leaves_settled f g (c.TakeLetter to) t d e s = still_settled g t (perform (c.TakeLetter to) t) refl (λ name. refl) s
+leaves_settled f g (c.AddRange range) t d e s = still_settled g t (perform (c.AddRange range) t) refl (λ name. refl) refl s
+leaves_settled f g (c.DropRange range) t d e s = still_settled g t (perform (c.DropRange range) t) refl (λ name. refl) refl s
+leaves_settled f g (c.AddPending h) t d e s = still_settled g t (perform (c.AddPending h) t) refl (λ name. refl) (pending_apart f g h t d e) s
+leaves_settled f g (c.DropPending h) t d e s = still_settled g t (perform (c.DropPending h) t) refl (λ name. refl) (unpending_apart f g h t d e) s
+leaves_settled f g (c.AddHold hold) t d e s = still_settled g t (perform (c.AddHold hold) t) refl (λ name. refl) refl s
+leaves_settled f g (c.SetHold key owner mode) t d e s = still_settled g t (perform (c.SetHold key owner mode) t) refl (λ name. refl) refl s
+leaves_settled f g (c.DropHold key owner) t d e s = still_settled g t (perform (c.DropHold key owner) t) refl (λ name. refl) refl s
+leaves_settled f g (c.AddWaiter waiter) t d e s = still_settled g t (perform (c.AddWaiter waiter) t) refl (λ name. refl) refl s
+leaves_settled f g (c.DropWaiter sid call) t d e s = still_settled g t (perform (c.DropWaiter sid call) t) refl (λ name. refl) refl s
+leaves_settled f g (c.Send post) t d e s = still_settled g t (perform (c.Send post) t) refl (λ name. refl) refl s
+leaves_settled f g (c.TakeLetter to) t d e s = still_settled g t (perform (c.TakeLetter to) t) refl (λ name. refl) refl s
 leaves_settled f g (c.EndSession sid moment) t d e s = absurd cc
 leaves_settled f g (c.NextSession sid moment) t d e s = absurd cc
 

@@ -74,12 +74,13 @@ pub record IsCallingInSets (setup : Setup) (t : Table) (caller : Caller) : Type 
 
 -- ---- what is counted
 
--- the rows that a change brings
+-- the rows that a change brings, or the file that is to go
 abbrev pub brings : Change → ℕ
 brings (c.AddOpen o) = 1
 brings (c.AddLease lease) = 1
 brings (c.AddRange range) = 1
 brings (c.AddHold hold) = 1
+brings (c.AddPending file) = 1
 brings _ = 0
 
 -- a worker may begin to live

@@ -10,15 +10,17 @@ use Rattle.sid_core.specs.declared.entry.Event.{Event}
 use Rattle.sid_core.specs.declared.entry.Event.TheVariants.{Called, Died, Tidied}
 use Rattle.sid_core.specs.declared.ids.Moment.{Moment}
 use Rattle.sid_core.specs.declared.setup.Setup.{Setup}
+use Rattle.serial_table.specs.declared.rows.LeaseRow.{LeaseRow}
 use Rattle.serial_table.specs.declared.table.Table.{Table}
 use Rattle.serial_table.specs.View.{View, view}
 use Rattle.serial_table.specs.Settle.{settle_where, settle_by_key, settle_file}
-use Rattle.serial_table.specs.Change.{set_lease, new_owner, set_hold, end_session, begin_session, perform_all}
+use Rattle.serial_table.specs.Change.{set_lease, new_owner, set_hold, with_pending, end_session, begin_session, perform_all}
 use Rattle.serial_table.specs.Decision.{Outcome, conclude}
 use Rattle.serial_table.specs.Break.{break_lease, break_each}
 use Rattle.serial_table.specs.Grant.{grant}
 use Rattle.serial_table.specs.Open.{handle_breaks, other_breaks, open_by, open_file}
 use Rattle.serial_table.specs.Close.{close}
+use Rattle.serial_table.specs.Delete.{delete}
 use Rattle.serial_table.specs.Ack.{ack}
 use Rattle.serial_table.specs.Lock.{lock}
 use Rattle.serial_table.specs.Unlock.{unlock}
@@ -29,7 +31,8 @@ use Rattle.serial_table.specs.Session.{end_of_session}
 use Rattle.serial_table.specs.Disconnect.{disconnect}
 use Rattle.serial_table.specs.Reconnect.{reconnect}
 use Rattle.serial_table.specs.Scavenge.{scavenge}
-use Rattle.serial_table.specs.Decide.{decide}
+use Rattle.serial_table.specs.Decide.{outcome}
+use Rattle.serial_table.specs.Expire.{expired_by}
 use Rattle.serial_table.specs.Step.{caller_of, death_of}
 use Rattle.serial_table.specs.History.{start}
 use Rattle.serial_table.specs.Tables.{tables}
@@ -37,7 +40,7 @@ use Rattle.serial_table.specs.Text.{event_line, post_line, tables_under}
 
 -- what a call of this worker comes to
 abbrev pub any_call : Setup → View → ℕ → ℕ → Moment → Call → Option Outcome
-any_call setup v worker number moment call = option_map (λ caller. conclude v (decide setup v caller call)) (caller_of setup v worker number moment)
+any_call setup v worker number moment call = option_map (λ caller. outcome setup v caller call) (caller_of setup v worker number moment)
 
 -- what an event comes to, with the reply that the rules give in place of its own
 abbrev pub any_outcome : Setup → View → ℕ → Event → Option Outcome
@@ -65,7 +68,7 @@ played_from setup t (entry ∷ entries) =
 
 -- what a history prints
 unfoldable pub played : Setup → List Entry → List ℕ
-unfolding conclude settle_where settle_by_key settle_file set_lease new_owner set_hold end_session begin_session break_lease break_each handle_breaks other_breaks open_by open_file grant close ack lock unlock read write glock gunlock recv end_of_session disconnect reconnect scavenge caller_of tables digits
+unfolding conclude expired_by settle_where settle_by_key settle_file set_lease new_owner set_hold with_pending end_session begin_session break_lease break_each handle_breaks other_breaks open_by open_file grant close delete ack lock unlock read write glock gunlock recv end_of_session disconnect reconnect scavenge caller_of tables digits
 played setup entries = played_from setup (start setup) entries
 
 abbrev pub table_from : Setup → Table → List Entry → Table
@@ -74,5 +77,10 @@ table_from setup t (entry ∷ entries) = table_from setup (after_any setup t ent
 
 -- the tables that smbstatus shows at the end of a history
 unfoldable pub shown_at_the_end : Setup → List Entry → Tables → List ℕ
-unfolding conclude settle_where settle_by_key settle_file set_lease new_owner set_hold end_session begin_session break_lease break_each handle_breaks other_breaks open_by open_file grant close ack lock unlock read write glock gunlock recv end_of_session disconnect reconnect scavenge caller_of tables digits
+unfolding conclude expired_by settle_where settle_by_key settle_file set_lease new_owner set_hold with_pending end_session begin_session break_lease break_each handle_breaks other_breaks open_by open_file grant close delete ack lock unlock read write glock gunlock recv end_of_session disconnect reconnect scavenge caller_of tables digits
 shown_at_the_end setup entries chosen = tables setup (view (table_from setup (start setup) entries)) chosen
+
+-- the leases at the end of a history
+unfoldable pub leases_after : Setup → List Entry → List LeaseRow
+unfolding conclude expired_by settle_where settle_by_key settle_file set_lease new_owner set_hold with_pending end_session begin_session break_lease break_each handle_breaks other_breaks open_by open_file grant close delete ack lock unlock read write glock gunlock recv end_of_session disconnect reconnect scavenge caller_of tables digits
+leases_after setup entries = (table_from setup (start setup) entries).leases

@@ -17,6 +17,7 @@ used_one old new n keeps room = record {
   waiters = one_less _ _ _ _ n keeps.waiters room.waiters;
   letters = one_less _ _ _ _ n keeps.letters room.letters;
   ended = one_less _ _ _ _ n keeps.ended room.ended;
+  pending = one_less _ _ _ _ n keeps.pending room.pending;
 }
 
 less : (len m n cap : ℕ) → m ≤ n → len + n ≤ cap → len + m ≤ cap
@@ -32,6 +33,7 @@ room_for_fewer lists m n le room = record {
   waiters = less _ m n _ le room.waiters;
   letters = less _ m n _ le room.letters;
   ended = less _ m n _ le room.ended;
+  pending = less _ m n _ le room.pending;
 }
 
 -- the letters fit into the room that was made for all who could wait

@@ -34,5 +34,8 @@ eqb-flip a b = flip_tests a b (a == b) (b == a) (λ i. a == b) (λ i. b == a)
 pub same_sid-flip : (a b : Sid) → same_sid a b ≡ same_sid b a
 same_sid-flip a b = λ i. eqb-flip a.pid b.pid i && eqb-flip a.session b.session i
 
+pub same_name-flip : (a b : LeaseName) → same_name a b ≡ same_name b a
+same_name-flip a b = λ i. eqb-flip a.guid b.guid i && eqb-flip a.key b.key i
+
 pub same_id-refl : (a : OpenId) → same_id a a ≡ true
 same_id-refl a = and_from (a.pid == a.pid) (a.call == a.call) (eq-eqb a.pid a.pid (λ i. a.pid)) (eq-eqb a.call a.call (λ i. a.call))

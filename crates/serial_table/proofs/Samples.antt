@@ -134,8 +134,9 @@ durable open_row = record open_row { durable = 60 }
 abbrev pub lease : LeaseName → ℕ → ℕ → LeaseRow
 lease lease_name file held = record { name = lease_name; file = file; held = state held; breaking = None }
 
+-- a break that was made at moment 70
 abbrev pub breaking : ℕ → ℕ → Breaking
-breaking asked needed = record { asked = state asked; needed = state needed; until = at 0 }
+breaking asked needed = record { asked = state asked; needed = state needed; until = at 105 }
 
 abbrev pub breaks : ℕ → ℕ → LeaseRow → LeaseRow
 breaks asked needed row = record row { breaking = Some (breaking asked needed) }

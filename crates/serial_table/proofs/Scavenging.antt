@@ -14,7 +14,7 @@ use Rattle.serial_table.specs.Decision.{spots_of}
 use Rattle.serial_table.specs.ByFile.{spots_of_all}
 use Rattle.serial_table.specs.Scavenge.{goes}
 
-one_more : (i : ℕ) → range_with_len 1 (i + 1) ≡ range_with_len 1 i ++ (i + 1) ∷ []
+pub one_more : (i : ℕ) → range_with_len 1 (i + 1) ≡ range_with_len 1 i ++ (i + 1) ∷ []
 one_more i =
     sym (map-id (range_with_len 1 (i + 1))) ∙ map-range_with_len_more (λ (x : ℕ). x) 1 i (i + 1) (omega arith)
     ∙ ap (λ ns. ns ++ (i + 1) ∷ []) (map-id (range_with_len 1 i))
@@ -57,3 +57,12 @@ spots_more E opens i own spots next mine more e =
     ∙ sym (flat_map-append spots_of (filter H (range_with_len 1 i)) (filter H ((i + 1) ∷ [])))
     ∙ ap (flat_map spots_of) (sym (filter-append H (range_with_len 1 i) ((i + 1) ∷ [])))
     ∙ ap (λ files. flat_map spots_of (filter H files)) (sym (one_more i))
+
+-- ---- names, file by file
+
+pub names_more : {X : Type 0} (F : ℕ → List X) (i : ℕ) (own names next : List X) → own ≡ F (i + 1) → next ≡ names ++ own → names ≡ flat_map F (range_with_len 1 i) → next ≡ flat_map F (range_with_len 1 (i + 1))
+names_more F i own names next mine more e =
+    more ∙ (λ j. e j ++ mine j)
+    ∙ ap (λ rows. flat_map F (range_with_len 1 i) ++ rows) (sym (append-nil (F (i + 1))))
+    ∙ sym (flat_map-append F (range_with_len 1 i) ((i + 1) ∷ []))
+    ∙ ap (flat_map F) (sym (one_more i))

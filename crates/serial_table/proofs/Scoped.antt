@@ -18,6 +18,7 @@ use Rattle.sid_core.specs.declared.reply.Reply.TheVariants as reply
 use Rattle.sid_core.specs.declared.setup.Setup.{Setup}
 use Rattle.sid_core.specs.Ids.{same_sid, same_name}
 use Rattle.sid_core.specs.Values.{has, is_part_of}
+use Rattle.sid_core.specs.declared.ids.Moment.{Moment}
 use Rattle.serial_table.specs.declared.rows.OpenRow.{OpenRow}
 use Rattle.serial_table.specs.declared.rows.LeaseRow.{LeaseRow}
 use Rattle.serial_table.specs.declared.rows.RangeRow.{RangeRow}
@@ -37,10 +38,11 @@ use Rattle.serial_table.specs.Local.{perform_all_in_file}
 use Rattle.serial_table.specs.Decision.{only_reply, own_waits_end, no_longer_waits, settling}
 use Rattle.serial_table.specs.Range.{passes_end, range_conflict}
 use Rattle.serial_table.specs.Break.{Breaks, no_break, sets_lease, breaks_read, begins_to_break, breaks_to, break_by, connected_under, break_lease, break_first, both, break_each, break_others, names_of, none_of_them, all_but_handle, all_but_write}
-use Rattle.serial_table.specs.Asked.{Asked, asked_of, is_stat, is_elsewhere, in_conflict, refuses, own_lease}
+use Rattle.serial_table.specs.Asked.{Asked, asked_of, is_stat, deletes_without_right, is_elsewhere, in_conflict, refuses, own_lease}
 use Rattle.serial_table.specs.Grant.{LeaseGrant, allowed, old_lease, lease_by, grant_lease, is_durable, new_open, grant_by, grant}
 use Rattle.serial_table.specs.Open as opening
 use Rattle.serial_table.specs.Close.{close_first, close}
+use Rattle.serial_table.specs.Delete.{delete_first, delete}
 use Rattle.serial_table.specs.Ack.{acknowledged, accept, ack_lease, ack_first, ack}
 use Rattle.serial_table.specs.ReadWrite.{if_allowed, forbids_read, forbids_write, read_first, read, written, write_first, write}
 use Rattle.serial_table.specs.Lock.{range_blocker, wait_for_range, lock_by, lock_range, lock_first, lock}
@@ -54,6 +56,8 @@ use Rattle.serial_table.proofs.SameWorkers.{keeps_workers}
 use Rattle.serial_table.proofs.Members.{each, all_each}
 use Rattle.serial_table.proofs.Concluding.{PassesFinishing, no_more_all}
 use Rattle.serial_table.proofs.OtherFiles.{leaves_others, enough_in_named}
+use Rattle.serial_table.proofs.CloseOwed.{of_close}
+use Rattle.serial_table.proofs.DeleteOwed.{of_delete}
 use Rattle.serial_table.proofs.UnlockOwed.{by_ranges}
 use Rattle.serial_table.proofs.GlobalLockOwed.{of_glock}
 use Rattle.serial_table.proofs.ReconnectOwed.{of_reconnect}
@@ -96,30 +100,30 @@ module _ (file : ℕ) where
   sets : (rest : List Change) → leave rest → ((file == file) && list_all (leaves_others file) rest) ≡ true
   sets rest later = and_from (file == file) (list_all (leaves_others file) rest) own later
 
-  to_leave : (connected : List OpenRow) (l : LeaseRow) (target : ℕ) → leave (breaks_to file connected l target).changes
-  to_leave [] l target = sets (c.Settle ∷ []) refl
-  to_leave (first ∷ others) l target =
-      cond_both (l.held.0 == 1) (breaks_read file first.owner l target) (begins_to_break file first.owner l target) (λ (b : Breaks). leave b.changes) (λ _. sets [] refl) (λ _. sets [] refl)
+  to_leave : (now : Moment) (connected : List OpenRow) (l : LeaseRow) (target : ℕ) → leave (breaks_to now file connected l target).changes
+  to_leave now [] l target = sets (c.Settle ∷ []) refl
+  to_leave now (first ∷ others) l target =
+      cond_both (l.held.0 == 1) (breaks_read file first.owner l target) (begins_to_break now file first.owner l target) (λ (b : Breaks). leave b.changes) (λ _. sets [] refl) (λ _. sets [] refl)
 
-  by_leave : (connected : List OpenRow) (kept : ℕ) (l : LeaseRow) (breaking : Option Breaking) → leave (break_by file connected kept l breaking).changes
-  by_leave connected kept l (Some breaking) = sets [] refl
-  by_leave connected kept l None =
-      cond_both (is_part_of l.held.0 kept) no_break (breaks_to file connected l (bit_and l.held.0 kept)) (λ (b : Breaks). leave b.changes) (λ _. refl) (λ _. to_leave connected l (bit_and l.held.0 kept))
+  by_leave : (now : Moment) (connected : List OpenRow) (kept : ℕ) (l : LeaseRow) (breaking : Option Breaking) → leave (break_by now file connected kept l breaking).changes
+  by_leave now connected kept l (Some breaking) = sets [] refl
+  by_leave now connected kept l None =
+      cond_both (is_part_of l.held.0 kept) no_break (breaks_to now file connected l (bit_and l.held.0 kept)) (λ (b : Breaks). leave b.changes) (λ _. refl) (λ _. to_leave now connected l (bit_and l.held.0 kept))
 
-  lease_leave : (f : FileView) (kept : ℕ) (l : LeaseRow) → leave (break_lease file f kept l).changes
+  lease_leave : (now : Moment) (f : FileView) (kept : ℕ) (l : LeaseRow) → leave (break_lease now file f kept l).changes
   unfolding break_lease
-  lease_leave f kept l = by_leave (connected_under f l.name) kept l l.breaking
+  lease_leave now f kept l = by_leave now (connected_under f l.name) kept l l.breaking
 
-  first_leave : (f : FileView) (kept : ℕ) (ls : List LeaseRow) → leave (break_first file f kept ls).changes
-  first_leave f kept [] = refl
-  first_leave f kept (l ∷ ls) = lease_leave f kept l
+  first_leave : (now : Moment) (f : FileView) (kept : ℕ) (ls : List LeaseRow) → leave (break_first now file f kept ls).changes
+  first_leave now f kept [] = refl
+  first_leave now f kept (l ∷ ls) = lease_leave now f kept l
 
-  each_leave : (f : FileView) (kept : ℕ) (names : List LeaseName) → leave (break_each file f kept names).changes
+  each_leave : (now : Moment) (f : FileView) (kept : ℕ) (names : List LeaseName) → leave (break_each now file f kept names).changes
   unfolding break_each
-  each_leave f kept [] = refl
-  each_leave f kept (name ∷ names) =
-      let one = break_first file f kept (f.leases name) in
-      append_all one.changes (break_each file (perform_all_in_file one.changes f) kept names).changes (first_leave f kept (f.leases name)) (each_leave (perform_all_in_file one.changes f) kept names)
+  each_leave now f kept [] = refl
+  each_leave now f kept (name ∷ names) =
+      let one = break_first now file f kept (f.leases name) in
+      append_all one.changes (break_each now file (perform_all_in_file one.changes f) kept names).changes (first_leave now f kept (f.leases name)) (each_leave now (perform_all_in_file one.changes f) kept names)
 
 -- ---- `open`
 
@@ -151,13 +155,13 @@ module _ (caller : Caller) (asked : Asked) where
 
   handle_leave : (f : FileView) → leave asked.file (opening.handle_breaks f asked).changes
   unfolding opening.handle_breaks
-  handle_leave f = each_leave asked.file f all_but_handle (names_of (in_conflict f asked))
+  handle_leave f = each_leave asked.file asked.moment f all_but_handle (names_of (in_conflict f asked))
 
   other_leave : (f : FileView) → leave asked.file (opening.other_breaks f asked).changes
   unfolding opening.other_breaks
   other_leave f =
-      cond_both (is_stat asked.access && not asked.overwrite) no_break (break_others asked.file f (cond asked.overwrite none_of_them all_but_write) asked.lease) (λ (b : Breaks). leave asked.file b.changes)
-      (λ _. refl) (λ _. each_leave asked.file f (cond asked.overwrite none_of_them all_but_write) (filter (λ name. not (option_map_or (same_name name) asked.lease false)) (names_of f.opens)))
+      cond_both (is_stat asked.access && not asked.overwrite) no_break (break_others asked.moment asked.file f (cond asked.overwrite none_of_them all_but_write) asked.lease) (λ (b : Breaks). leave asked.file b.changes)
+      (λ _. refl) (λ _. each_leave asked.file asked.moment f (cond asked.overwrite none_of_them all_but_write) (filter (λ name. not (option_map_or (same_name name) asked.lease false)) (names_of f.opens)))
 
   wait_leave : (f : FileView) (done : Breaks) (blocker : Option Sid) → leave asked.file done.changes → leave asked.file (opening.wait_or_grant f caller asked done blocker).changes
   wait_leave f done (Some blocker) before = before
@@ -172,35 +176,41 @@ module _ (caller : Caller) (asked : Asked) where
   open_leave : (elsewhere : Bool) (f : FileView) → leave asked.file (opening.open_by elsewhere f caller asked).changes
   unfolding opening.open_by
   open_leave elsewhere f =
-      cond_both elsewhere (only_reply reply.InvalidParameter) _ (λ (d : Decision). leave asked.file d.changes) (λ _. refl)
+      cond_both (deletes_without_right asked) (only_reply reply.AccessDenied) _ (λ (d : Decision). leave asked.file d.changes) (λ _. refl)
+      (λ _. cond_both elsewhere (only_reply reply.InvalidParameter) _ (λ (d : Decision). leave asked.file d.changes) (λ _. refl)
+      (λ _. cond_both f.pending (only_reply reply.DeletePending) _ (λ (d : Decision). leave asked.file d.changes) (λ _. refl)
       (λ _. cond_both (list_any (refuses f asked) (in_conflict f asked)) (only_reply reply.SharingViolation) (opening.go_on f caller asked (opening.handle_breaks f asked) (opening.handle_breaks f asked).blocker)
-      (λ (d : Decision). leave asked.file d.changes) (λ _. refl) (λ _. on_leave f (opening.handle_breaks f asked) (opening.handle_breaks f asked).blocker (handle_leave f)))
+      (λ (d : Decision). leave asked.file d.changes) (λ _. refl) (λ _. on_leave f (opening.handle_breaks f asked) (opening.handle_breaks f asked).blocker (handle_leave f)))))
 
   pub open_alone : (v : View) → IsOfOneFile (opening.open_file v caller asked)
   unfolding opening.open_file
   open_alone v =
       own_alone caller (file_view asked.file v).open_watches (opening.open_by (is_elsewhere v asked) (file_view asked.file v) caller asked) (asked.file, open_leave (is_elsewhere v asked) (file_view asked.file v))
 
--- ---- `close`, `ack`, `recv`
+-- ---- `close`, `delete`, `ack`, `recv`
 
 close_alone : (rows : List OpenRow) → IsOfOneFile (close_first rows)
 close_alone [] = (0, refl)
-close_alone (row ∷ rows) = (row.file, sets row.file [] refl)
+close_alone (row ∷ rows) = of_close IsOfOneFile row (row.file, sets row.file (c.AddPending row.file ∷ []) (sets row.file [] refl)) (row.file, sets row.file [] refl)
+
+delete_alone : (on : Bool) (rows : List OpenRow) → IsOfOneFile (delete_first on rows)
+delete_alone on [] = (0, refl)
+delete_alone on (row ∷ rows) = of_delete IsOfOneFile on row (0, refl) (row.file, sets row.file [] refl) (row.file, sets row.file [] refl)
 
 recv_alone : (caller : Caller) (letters : List Post) → IsOfOneFile (recv_first caller letters)
 recv_alone caller [] = (0, refl)
 recv_alone caller (first ∷ others) = (0, refl)
 
-ack_lease_alone : (f : FileView) (l : LeaseRow) (state : LeaseState) (breaking : Option Breaking) → IsOfOneFile (ack_lease f l state breaking)
-ack_lease_alone f l state None = (0, refl)
-ack_lease_alone f l state (Some breaking) =
-    let again = break_lease l.file f breaking.needed.0 (acknowledged l state) in
+ack_lease_alone : (now : Moment) (f : FileView) (l : LeaseRow) (state : LeaseState) (breaking : Option Breaking) → IsOfOneFile (ack_lease now f l state breaking)
+ack_lease_alone now f l state None = (0, refl)
+ack_lease_alone now f l state (Some breaking) =
+    let again = break_lease now l.file f breaking.needed.0 (acknowledged l state) in
     cond_both (is_part_of state.0 breaking.asked.0) (accept l state again) (only_reply reply.RequestNotAccepted) IsOfOneFile
-    (λ _. (l.file, sets l.file again.changes (lease_leave l.file f breaking.needed.0 (acknowledged l state)))) (λ _. (0, refl))
+    (λ _. (l.file, sets l.file again.changes (lease_leave l.file now f breaking.needed.0 (acknowledged l state)))) (λ _. (0, refl))
 
-ack_alone : (v : View) (ls : List LeaseRow) (state : LeaseState) → IsOfOneFile (ack_first v ls state)
-ack_alone v [] state = (0, refl)
-ack_alone v (l ∷ ls) state = ack_lease_alone (file_view l.file v) l state l.breaking
+ack_alone : (now : Moment) (v : View) (ls : List LeaseRow) (state : LeaseState) → IsOfOneFile (ack_first now v ls state)
+ack_alone now v [] state = (0, refl)
+ack_alone now v (l ∷ ls) state = ack_lease_alone now (file_view l.file v) l state l.breaking
 
 -- ---- `read`, `write`, `lock`, `unlock`
 
@@ -216,21 +226,21 @@ read_alone v span [] = (0, refl)
 read_alone v span (row ∷ rows) = allowed_alone (file_view row.file v) row 0x21 span (forbids_read row span) (only_reply reply.Done) (0, refl)
 
 -- all bits of the file's other leases are broken
-others_leave : (row : OpenRow) (f : FileView) → leave row.file (break_others row.file f none_of_them row.lease).changes
-others_leave row f = each_leave row.file f none_of_them (filter (λ name. not (option_map_or (same_name name) row.lease false)) (names_of f.opens))
+others_leave : (now : Moment) (row : OpenRow) (f : FileView) → leave row.file (break_others now row.file f none_of_them row.lease).changes
+others_leave now row f = each_leave row.file now f none_of_them (filter (λ name. not (option_map_or (same_name name) row.lease false)) (names_of f.opens))
 
-write_alone : (v : View) (span : Span) (rows : List OpenRow) → IsOfOneFile (write_first v span rows)
-write_alone v span [] = (0, refl)
-write_alone v span (row ∷ rows) =
+write_alone : (now : Moment) (v : View) (span : Span) (rows : List OpenRow) → IsOfOneFile (write_first now v span rows)
+write_alone now v span [] = (0, refl)
+write_alone now v span (row ∷ rows) =
     let f = file_view row.file v in
-    allowed_alone f row 0x6 span (forbids_write row span) (written row (break_others row.file f none_of_them row.lease)) (row.file, others_leave row f)
+    allowed_alone f row 0x6 span (forbids_write row span) (written row (break_others now row.file f none_of_them row.lease)) (row.file, others_leave now row f)
 
 wait_alone : (caller : Caller) (file : ℕ) (wait : Bool) (blocker : Option Sid) → IsOfOneFile (wait_for_range caller file wait blocker)
 wait_alone caller file false blocker = (0, refl)
 wait_alone caller file true blocker = (0, refl)
 
 lock_by_alone : (f : FileView) (caller : Caller) (span : Span) (mode : Mode) (wait : Bool) (row : OpenRow) (held : List RangeRow) → IsOfOneFile (lock_by f caller span mode wait row held)
-lock_by_alone f caller span mode wait row [] = (row.file, others_leave row f)
+lock_by_alone f caller span mode wait row [] = (row.file, others_leave caller.moment row f)
 lock_by_alone f caller span mode wait row (first ∷ others) = wait_alone caller row.file wait (range_blocker f first)
 
 lock_range_alone : (f : FileView) (caller : Caller) (span : Span) (mode : Mode) (wait : Bool) (row : OpenRow) → IsOfOneFile (lock_range f caller span mode wait row)
@@ -277,15 +287,15 @@ is_of_one_file call.Scavenge = false
 is_of_one_file _ = true
 
 pub decided_alone : (setup : Setup) (v : View) (caller : Caller) (which : Call) → is_of_one_file which ≡ true → IsOfOneFile (decide setup v caller which)
-unfolding close ack lock unlock read write recv
-decided_alone setup v caller (call.OpenFile file access share lease durable overwrite delete) e = open_alone caller (asked_of caller file access share lease durable overwrite) v
+unfolding close delete ack lock unlock read write recv
+decided_alone setup v caller (call.OpenFile file access share lease durable overwrite delete) e = open_alone caller (asked_of caller file access share lease durable overwrite delete) v
 decided_alone setup v caller (call.Close handle) e = close_alone (v.opens_of_handle caller.sid handle)
-decided_alone setup v caller (call.Delete handle on) e = (0, refl)
-decided_alone setup v caller (call.Ack key state) e = ack_alone v (v.leases_of (own_lease caller key)) state
+decided_alone setup v caller (call.Delete handle on) e = delete_alone on (v.opens_of_handle caller.sid handle)
+decided_alone setup v caller (call.Ack key state) e = ack_alone caller.moment v (v.leases_of (own_lease caller key)) state
 decided_alone setup v caller (call.Lock handle span mode wait) e = lock_alone v caller span mode wait (v.opens_of_handle caller.sid handle)
 decided_alone setup v caller (call.Unlock handle span) e = unlock_alone v span (v.opens_of_handle caller.sid handle)
 decided_alone setup v caller (call.Read handle span) e = read_alone v span (v.opens_of_handle caller.sid handle)
-decided_alone setup v caller (call.Write handle span) e = write_alone v span (v.opens_of_handle caller.sid handle)
+decided_alone setup v caller (call.Write handle span) e = write_alone caller.moment v span (v.opens_of_handle caller.sid handle)
 decided_alone setup v caller (call.GLock key mode wait) e = glock_alone v caller key mode wait
 decided_alone setup v caller (call.GUnlock key) e = gunlock_alone v caller key
 decided_alone setup v caller call.Recv e = recv_alone caller (v.letters_of caller.sid)

@@ -3,7 +3,7 @@
 use Rattle.std.specs.Prelude.{◌≡◌, ℕ, true, [], ◌∷◌, None, Some, refl}
 use Rattle.sid_core.specs.declared.call.Call.TheVariants as call
 use Rattle.sid_core.specs.declared.ids.Spot.TheVariants.{OpenOf, RangesOf, LockOf}
-use Rattle.sid_core.specs.declared.reply.Reply.TheVariants.{Granted, Done, Message, NoMessage, Scavenged, Shown, Unsuccessful, ObjectNameNotFound}
+use Rattle.sid_core.specs.declared.reply.Reply.TheVariants.{Granted, Done, Message, NoMessage, Scavenged, Shown, ObjectNameNotFound}
 use Rattle.serial_table.specs.declared.change.Change.TheVariants as c
 use Rattle.serial_table.specs.declared.rows.LeaseRow.{LeaseRow}
 use Rattle.serial_table.specs.declared.rows.OpenRow.{OpenRow}
@@ -197,7 +197,3 @@ tidying = refl
 showing : decision_at (table lasting) their_call (shows true true true) ≡ only_reply Shown
 unfolding decision_at
 showing = refl
-
-deleting : decision_at (table lasting) their_call (call.Delete 4 true) ≡ only_reply Unsuccessful
-unfolding decision_at
-deleting = refl

@@ -1,7 +1,7 @@
 -- Settled tables: where each file is settled, and which files still have to settle.
 use Rattle.std.proofs.Common.{◌≡◌, ◌==◌, ℕ, Bool, true, false, cond, not, ◌&&◌, ◌||◌, List, [], ◌∷◌, filter, map, refl, sym, ap, ◌∙◌, eq-eqb}
-use Rattle.std.proofs.lemmas.Bool.{eqb-true, false_from_ne_true, both_ways}
-use Rattle.std.specs.List.{AllByRecursion}
+use Rattle.std.proofs.lemmas.Bool.{eqb-true, and_parts, or_left, or_right, false_from_ne_true, both_ways}
+use Rattle.std.specs.List.{AllByRecursion, list_any}
 use Rattle.sid_core.specs.declared.ids.LeaseName.{LeaseName}
 use Rattle.serial_table.specs.declared.rows.OpenRow.{OpenRow}
 use Rattle.serial_table.specs.declared.rows.RangeRow.{RangeRow}
@@ -9,9 +9,9 @@ use Rattle.serial_table.specs.declared.rows.LeaseRow.{LeaseRow}
 use Rattle.serial_table.specs.declared.table.Table.{Table}
 use Rattle.serial_table.specs.declared.change.Change.{Change}
 use Rattle.serial_table.specs.declared.change.Change.TheVariants as c
-use Rattle.serial_table.specs.View.{View, view, lives, is_of_file, is_range_of, has_name}
+use Rattle.serial_table.specs.View.{View, view, lives, is_of_file, is_range_of, has_name, names_file}
 use Rattle.serial_table.specs.File.{FileView, file_view, file_open}
-use Rattle.serial_table.specs.Settle.{settle, settle_where, settle_file, settled_lease, keeps_open, keeps_range, keeps_lease, row_stays, range_stays, lease_settles, lease_stays}
+use Rattle.serial_table.specs.Settle.{settle, settle_where, settle_file, settled_lease, keeps_open, keeps_range, keeps_lease, keeps_pending, row_stays, range_stays, lease_settles, lease_stays, pending_stays}
 use Rattle.serial_table.specs.Change.{perform_all}
 use Rattle.serial_table.specs.Local.{all_in}
 use Rattle.serial_table.proofs.Filters.{filter_all}
@@ -52,6 +52,10 @@ unfolding settle_file
 settled_leases t name file s =
     all_left_alone (keeps_lease (file_view file (view t))) (settled_lease (file_view file (view t))) (filter (is_lease_of file) (filter (has_name name) t.leases)) (ap (λ (f : FileView). f.leases name) s)
 
+settled_pending : (t : Table) (file : ℕ) → IsSettled t file → (view t).is_pending file ≡ true → keeps_pending (file_view file (view t)) ≡ true
+unfolding settle_file
+settled_pending t file s e = (and_parts ((view t).is_pending file) (keeps_pending (file_view file (view t))) (ap (λ (f : FileView). f.pending) s ∙ e)).1
+
 -- ---- settling files that are settled changes nothing
 
 row_alike : (b keeps : Bool) → (b ≡ false → keeps ≡ true) → keeps ≡ (not b || keeps)
@@ -68,6 +72,14 @@ lease_alike here v false l e h =
     let k = settled_lease (file_view l.file v) l in
     let stays : keeps_lease (file_view k.file v) k ≡ true = ap (λ f. keeps_lease (file_view f v) k) (file-settled_lease (file_view l.file v) l) ∙ (h refl).0 in
     ((h refl).1, stays ∙ sym (ap (λ b. not b || keeps_lease (file_view l.file v) l) e))
+
+pending_alike : (here : ℕ → Bool) (t : Table) → ((file : ℕ) → here file ≡ false → IsSettled t file) → (files : List ℕ) → ((file : ℕ) → list_any (names_file file) files ≡ true → (view t).is_pending file ≡ true)
+    → AllByRecursion (λ file. pending_stays (λ file. true) (view t) file ≡ pending_stays here (view t) file) files
+pending_alike here t others [] named = tt
+pending_alike here t others (file ∷ files) named = (
+  row_alike (here file) (keeps_pending (file_view file (view t))) (λ h. settled_pending t file (others file h) (named file (or_left (file == file) (list_any (names_file file) files) (eq-eqb file file refl)))),
+  pending_alike here t others files (λ g e. named g (or_right (file == g) (list_any (names_file g) files) e)),
+)
 
 -- Where all other files are settled, it is enough to settle the files that pass the test.
 pub settle_only : (here : ℕ → Bool) (t : Table) → ((file : ℕ) → here file ≡ false → IsSettled t file) → settle t ≡ settle_where here t
@@ -90,7 +102,8 @@ settle_only here t others =
     (λ lease. own_name lease) t.leases
     (λ name _. all_by_key is_lease_of (λ lease. lease.file) (λ file. here file ≡ false) (lease_stays_there v) (λ lease. eq-eqb lease.file lease.file refl) (filter (has_name name) t.leases)
     (λ file h. settled_leases t name file (others file h))))) in
-    λ i. record t { opens = opens i; ranges = ranges i; leases = leases i }
+    let pending = filter_alike (pending_stays (λ file. true) v) (pending_stays here v) t.pending (pending_alike here t others t.pending (λ file e. e)) in
+    λ i. record t { opens = opens i; ranges = ranges i; leases = leases i; pending = pending i }
   where
     own_name : (lease : LeaseRow) → has_name lease.name lease ≡ true
     own_name lease = ap (λ b. b && (lease.name.key == lease.name.key)) (eq-eqb lease.name.guid lease.name.guid refl) ∙ eq-eqb lease.name.key lease.name.key refl
@@ -104,6 +117,7 @@ settle_nothing t =
       opens = filter_all (row_stays (λ file. false) v) (λ _. refl) t.opens i;
       ranges = filter_all (range_stays (λ file. false) v) (λ _. refl) t.ranges i;
       leases = leases i;
+      pending = filter_all (pending_stays (λ file. false) v) (λ _. refl) t.pending i;
     }
   where
     map_same : (ls : List LeaseRow) → map (λ l. l) ls ≡ ls

@@ -1,5 +1,5 @@
 -- A consistent table that has settled is sound.
-use Rattle.std.proofs.Common.{◌≡◌, ◌==◌, ◌≤◌, ◌&&◌, ◌||◌, not, suc, Bool, true, false, cond, List, [], ◌∷◌, length, filter, map, Option, Some, None, refl, sym, ap, ◌∙◌, subst, arith, inl, inr}
+use Rattle.std.proofs.Common.{◌≡◌, ◌==◌, ◌≤◌, ◌&&◌, ◌||◌, not, ℕ, suc, Bool, true, false, cond, List, [], ◌∷◌, length, filter, map, Option, Some, None, refl, sym, ap, ◌∙◌, subst, arith, inl, inr}
 use Rattle.std.specs.Prelude.{is_some}
 use Rattle.std.specs.List.{list_any}
 use Rattle.std.specs.Option.{option_map_or}
@@ -14,8 +14,8 @@ use Rattle.serial_table.specs.declared.rows.Breaking.{Breaking}
 use Rattle.serial_table.specs.declared.table.Table.{Table}
 use Rattle.serial_table.specs.View.{View, view, lives, has_name, is_of_file, carries}
 use Rattle.serial_table.specs.File.{FileOpen, file_view, file_open, is_under}
-use Rattle.serial_table.specs.Settle.{settle, settle_where, broken_to_needed, settled_lease, lacks_handle, keeps_open, row_stays, lease_settles, lease_stays}
-use Rattle.serial_table.specs.Sound.{IsConsistent, IsSound, has_its_lease, holds_handle, is_leased_if_durable, is_durable, lasts, is_open_under, has_open, may_stay, may_break}
+use Rattle.serial_table.specs.Settle.{settle, settle_where, broken_to_needed, settled_lease, lacks_handle, keeps_open, row_stays, lease_settles, lease_stays, pending_stays}
+use Rattle.serial_table.specs.Sound.{IsConsistent, IsSound, has_its_lease, holds_handle, is_leased_if_durable, is_durable, lasts, is_open_under, has_open, is_opened, may_stay, may_break}
 use Rattle.serial_table.proofs.Counting.{length_filtered}
 use Rattle.serial_table.proofs.Members.{IsIn, each, all_each, any_of, one_of, none_of, in_filter, passes_in, in_map}
 
@@ -121,6 +121,17 @@ module _ (t : Table) (k : IsConsistent t) (settled : settle t ≡ t) where
       none_breaks : ◌≡◌ {A = Option Breaking} None (Some b) → ⊥
       none_breaks h = cc
 
+  -- ---- each file that is to go has an open
+
+  file_opened : (file : ℕ) → IsIn file t.pending → is_opened t.opens file ≡ true
+  unfolding settle_where
+  file_opened file i =
+      let stays : pending_stays (λ file. true) v file ≡ true = (in_filter (pending_stays (λ file. true) v) t.pending file (subst (IsIn file) (sym (ap (λ (s : Table). s.pending) settled)) i)).1 in
+      let x = one_of (keeps_open (file_view file v)) (file_view file v).opens stays in
+      let o = in_map (file_open (lives v)) (v.opens_of file) x.0 x.1 in
+      let within = in_filter (is_of_file file) t.opens o.0 o.1 in
+      any_of (is_of_file file) t.opens o.0 within.0 within.1
+
   pub settled-sound : IsSound t
   settled-sound = record {
     rows = k;
@@ -128,4 +139,5 @@ module _ (t : Table) (k : IsConsistent t) (settled : settle t ≡ t) where
     leases_have_opens = all_each (has_open t.opens) t.leases has_its;
     breaking_are_connected = all_each (may_break t) t.leases
         (λ l i. breaking_by l l.breaking (list_any (λ o. is_under l.name o && o.connected) (file_view l.file v).opens) refl refl (lease_rests l i).0);
+    pending_have_opens = all_each (is_opened t.opens) t.pending file_opened;
   }

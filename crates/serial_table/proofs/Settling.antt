@@ -11,7 +11,7 @@ use Rattle.serial_table.specs.declared.rows.RangeRow.{RangeRow}
 use Rattle.serial_table.specs.declared.rows.LeaseRow.{LeaseRow}
 use Rattle.serial_table.specs.declared.rows.Breaking.{Breaking}
 use Rattle.serial_table.specs.File.{FileView, FileOpen, is_under}
-use Rattle.serial_table.specs.Settle.{settle_file, settled_lease, broken_to_needed, lacks_handle, keeps_open, keeps_range, keeps_lease}
+use Rattle.serial_table.specs.Settle.{settle_file, settled_lease, broken_to_needed, lacks_handle, keeps_open, keeps_range, keeps_lease, keeps_pending}
 use Rattle.serial_table.proofs.Filters.{filter_kept, filter_all, any_none, any_kept, any_same, map_again}
 use Rattle.serial_table.proofs.Views.{name-settled_lease}
 
@@ -78,6 +78,18 @@ lease_kept f l e =
     (λ o h. ap (λ b. is_under l.name o && b) (kept_twice f o h ∙ sym h)) f.opens
     ∙ any_kept (λ o. is_under l.name o && keeps_open f o) (keeps_open f) (under_kept f l.name) f.opens ∙ e
 
+-- a file that keeps an open would keep one again
+pending_kept : (f : FileView) → keeps_pending (settle_file f) ≡ keeps_pending f
+unfolding settle_file
+pending_kept f =
+    any_same (keeps_open (settle_file f)) (keeps_open f) (keeps_open f) (λ o h. kept_twice f o h ∙ sym h) f.opens
+    ∙ any_kept (keeps_open f) (keeps_open f) (λ o h. h) f.opens
+
+and_twice : (p k : Bool) → ((p && k) && k) ≡ (p && k)
+and_twice true true = refl
+and_twice true false = refl
+and_twice false k = refl
+
 pub settle_file-twice : (f : FileView) → settle_file (settle_file f) ≡ settle_file f
 unfolding settle_file
 settle_file-twice f = λ i. record f {
@@ -85,4 +97,5 @@ settle_file-twice f = λ i. record f {
   ranges = filter_all (keeps_range (settle_file f)) (range_kept f) (filter (keeps_range f) f.ranges) i;
   leases = λ name. (ap (filter (keeps_lease (settle_file f))) (map_again (settled_lease f) (settled_lease (settle_file f)) (settled_lease_again f) (keeps_lease f) (f.leases name))
       ∙ filter_kept (keeps_lease f) (keeps_lease (settle_file f)) (lease_kept f) (map (settled_lease f) (f.leases name))) i;
+  pending = (ap (λ b. (f.pending && keeps_pending f) && b) (pending_kept f) ∙ and_twice f.pending (keeps_pending f)) i;
 }

@@ -41,6 +41,7 @@ sound = record nothing_open {
   holds = shares_lock us 9 ∷ shares_lock them 9 ∷ holds_alone us 8 ∷ [];
   waiters = waits them 7 (OpenOf 1) us ∷ just_waits them 8 (RangesOf 1) ∷ just_waits us 8 (RangesOf 1) ∷ waits us 9 (LockOf 9) them ∷ [];
   letters = break_letter us ∷ wakes us 3 ∷ [];
+  pending = 2 ∷ [];
 }
 
 sound_rows : IsConsistent sound
@@ -50,6 +51,7 @@ sound_rows = record {
   handles_differ = ((refl, (refl, tt)), ((refl, tt), (tt, tt)));
   opens_have_leases = refl;
   durable_are_leased = refl;
+  marked_may_delete = refl;
   opens_last = refl;
   owners_had = refl;
   leases_differ = ((refl, tt), (tt, tt));
@@ -61,10 +63,11 @@ sound_rows = record {
   waits_differ = ((refl, (refl, (refl, tt))), ((refl, (refl, tt)), ((refl, tt), (tt, tt))));
   receivers_live = refl;
   pids_differ = ((refl, (refl, tt)), ((refl, tt), (tt, tt)));
+  pending_differ = (tt, tt);
 }
 
 sound_table : IsSound sound
-sound_table = record { rows = sound_rows; disconnected_hold_handle = refl; leases_have_opens = refl; breaking_are_connected = refl }
+sound_table = record { rows = sound_rows; disconnected_hold_handle = refl; leases_have_opens = refl; breaking_are_connected = refl; pending_have_opens = refl }
 
 -- ---- opens
 
@@ -89,6 +92,10 @@ lease_is_elsewhere rows = let no : false ≡ true = rows.opens_have_leases in cc
 durable_without_lease : IsConsistent (record sound { opens = kept ∷ lost ∷ durable (plain 102 3 4 2) ∷ [] }) → ⊥
 durable_without_lease rows = let no : false ≡ true = rows.durable_are_leased in cc
 
+-- A marked open without the right to delete.
+marked_without_right : IsConsistent (record sound { opens = kept ∷ lost ∷ record (plain 102 3 4 2) { marked = true } ∷ [] }) → ⊥
+marked_without_right rows = let no : false ≡ true = rows.marked_may_delete in cc
+
 -- A disconnected open that isn't durable.
 disconnected_but_plain : IsConsistent (record sound { opens = kept ∷ lost ∷ record (plain 102 3 4 2) { owner = sid 102 1 } ∷ [] }) → ⊥
 disconnected_but_plain rows = let no : false ≡ true = rows.opens_last in cc
@@ -105,6 +112,11 @@ open_of_a_later_session rows = let no : false ≡ true = rows.owners_had in cc
 one_pid_twice : IsConsistent (record sound { workers = sound.workers ++ sound.workers }) → ⊥
 unfolding IsDistinct
 one_pid_twice rows = let no : true ≡ false = rows.pids_differ.0.1.1.0 in cc
+
+-- A file that is to go and is named twice.
+one_file_twice : IsConsistent (record sound { pending = 2 ∷ 1 ∷ 2 ∷ [] }) → ⊥
+unfolding IsDistinct
+one_file_twice rows = let no : true ≡ false = rows.pending_differ.0.1.0 in cc
 
 -- ---- leases
 
@@ -208,15 +220,19 @@ lease_without_opens all = let no : false ≡ true = all.leases_have_opens in cc
 breaking_without_connected : IsSound (record sound { leases = breaks 3 1 (lease seven 1 7) ∷ breaks 1 1 (lease eight 1 3) ∷ [] }) → ⊥
 breaking_without_connected all = let no : false ≡ true = all.breaking_are_connected in cc
 
+-- A file that is to go without an open.
+pending_without_opens : IsSound (record sound { pending = 2 ∷ 3 ∷ [] }) → ⊥
+pending_without_opens all = let no : false ≡ true = all.pending_have_opens in cc
+
 -- ---- what a change asks of the table before it
 
 -- A new open that fits, and one for each thing that it must not do: take an id or a handle, belong to nobody who lives, be durable without a
--- lease, and name a lease that isn't there.
+-- lease, be marked without the right to delete, and name a lease that isn't there.
 abbrev new_open : OpenRow
 new_open = durable (leased eight (plain 102 3 10 1))
 
 new_open_fits : Fits (c.AddOpen new_open) sound
-new_open_fits = record { id = refl; handle = refl; owner = refl; leased = refl; lease = refl }
+new_open_fits = record { id = refl; handle = refl; owner = refl; leased = refl; marked = refl; lease = refl }
 
 id_is_taken : Fits (c.AddOpen (record new_open { id = id 102 6 })) sound → ⊥
 id_is_taken fits = let no : true ≡ false = fits.id in cc
@@ -229,6 +245,9 @@ owner_has_ended fits = let no : false ≡ true = fits.owner in cc
 
 durable_needs_a_lease : Fits (c.AddOpen (durable (plain 102 3 10 1))) sound → ⊥
 durable_needs_a_lease fits = let no : false ≡ true = fits.leased in cc
+
+mark_needs_the_right : Fits (c.AddOpen (record new_open { marked = true })) sound → ⊥
+mark_needs_the_right fits = let no : false ≡ true = fits.marked in cc
 
 lease_is_of_another_file : Fits (c.AddOpen (leased eight (plain 102 3 10 2))) sound → ⊥
 lease_is_of_another_file fits = let no : false ≡ true = fits.lease in cc

@@ -5,7 +5,6 @@ use Rattle.std.specs.List.{AllByRecursion, IsDistinct}
 use Rattle.std.proofs.lemmas.Bool.{cond_both}
 use Rattle.sid_core.specs.declared.ids.Moment.{Moment}
 use Rattle.sid_core.specs.declared.call.Call.{Call}
-use Rattle.sid_core.specs.declared.reply.Reply.{Reply}
 use Rattle.sid_core.specs.declared.entry.Entry.{Entry}
 use Rattle.sid_core.specs.declared.setup.Setup.{Setup}
 use Rattle.sid_core.specs.declared.setup.WorkerInfo.{WorkerInfo}
@@ -19,13 +18,15 @@ use Rattle.serial_table.specs.View.{view, lives}
 use Rattle.serial_table.specs.Change.{perform_all}
 use Rattle.serial_table.specs.Decision.{waits_no_more, conclude}
 use Rattle.serial_table.specs.Session.{end_of_session}
-use Rattle.serial_table.specs.Decide.{decide, outcome}
-use Rattle.serial_table.specs.History.{start, start_workers, after, IsLegalCall, IsLegal}
+use Rattle.serial_table.specs.Decide.{decide}
+use Rattle.serial_table.specs.Expire.{expired_by}
+use Rattle.serial_table.specs.History.{start, start_workers, after, IsLegal}
 use Rattle.serial_table.specs.Sound.{have_same_pid, IsConsistent, IsSound, AllAlong, AllFit}
 use Rattle.serial_table.proofs.Members.{IsIn}
 use Rattle.serial_table.proofs.Consistent.{consistent-perform_all}
 use Rattle.serial_table.proofs.SettledSound.{settled-sound}
-use Rattle.serial_table.proofs.Concluding.{start-settled, after_all-settled}
+use Rattle.serial_table.proofs.Concluding.{start-settled}
+use Rattle.serial_table.proofs.Expiring.{after_all-settled}
 use Rattle.serial_table.proofs.Fitting.{conclude_fits, along_append, along_mapped, kept_along, conclude_along}
 use Rattle.serial_table.proofs.Callers.{IsCallerOf}
 use Rattle.serial_table.proofs.Numbered.{IsNumbered, Numbers, numbered_more, numbered-perform}
@@ -33,7 +34,8 @@ use Rattle.serial_table.proofs.EndingSessions.{death_fits}
 use Rattle.serial_table.proofs.Owing.{IsCalling, DecisionHolds, fresh_above}
 use Rattle.serial_table.proofs.CallsOwed.{decided_holds}
 use Rattle.serial_table.proofs.Living.{row_of}
-use Rattle.serial_table.proofs.Along.{raise, raised_more, raised_own, KeptByCalls, KeptByDeaths, along_history}
+use Rattle.serial_table.proofs.Along.{raise, raised_more, raised_own, IsRightCall, KeptByExpiry, KeptByCalls, KeptByDeaths, along_history}
+use Rattle.serial_table.proofs.ExpiringFits.{expired_fits, expired_numbers}
 
 -- ---- the numbers that decisions bring
 
@@ -90,27 +92,31 @@ legal_calling setup low t by number moment caller r of above =
     }
 
 -- what a legal call decides owes what it should
-pub call_holds : (setup : Setup) (low : ℕ → ℕ) (t : Table) (by number : ℕ) (moment : Moment) (call : Call) (reply : Reply) (caller : Caller) → IsReached low t → IsLegalCall setup t by number moment call reply
+pub call_holds : (setup : Setup) (low : ℕ → ℕ) (t : Table) (by number : ℕ) (moment : Moment) (call : Call) (caller : Caller) → IsReached low t → IsRightCall setup number moment call
     → IsCallerOf setup t by number moment caller → low caller.sid.pid < number → DecisionHolds (raise low caller.sid.pid number) t (decide setup (view t) caller call)
-call_holds setup low t by number moment call reply caller r legal of above =
+call_holds setup low t by number moment call caller r legal of above =
     decided_holds (raise low caller.sid.pid number) setup t caller call (legal_calling setup low t by number moment caller r of above) legal.in_sets
 
 -- its changes fit
-pub call_fits : (setup : Setup) (low : ℕ → ℕ) (t : Table) (by number : ℕ) (moment : Moment) (call : Call) (reply : Reply) (caller : Caller) → IsReached low t → IsLegalCall setup t by number moment call reply
-    → IsCallerOf setup t by number moment caller → low caller.sid.pid < number → AllFit (outcome setup (view t) caller call).changes t
-call_fits setup low t by number moment call reply caller r legal of above =
-    conclude_fits t (decide setup (view t) caller call) r.consistent (call_holds setup low t by number moment call reply caller r legal of above).fits
+pub call_fits : (setup : Setup) (low : ℕ → ℕ) (t : Table) (by number : ℕ) (moment : Moment) (call : Call) (caller : Caller) → IsReached low t → IsRightCall setup number moment call
+    → IsCallerOf setup t by number moment caller → low caller.sid.pid < number → AllFit (conclude (view t) (decide setup (view t) caller call)).changes t
+call_fits setup low t by number moment call caller r legal of above =
+    conclude_fits t (decide setup (view t) caller call) r.consistent (call_holds setup low t by number moment call caller r legal of above).fits
 
 -- those of a death fit
 pub dying_fits : (low : ℕ → ℕ) (t : Table) (caller : Caller) (moment : Moment) → IsReached low t → lives (view t) caller.sid ≡ true
     → AllFit (conclude (view t) (end_of_session (view t) caller.sid moment [])).changes t
 dying_fits low t caller moment r alive = conclude_fits t (end_of_session (view t) caller.sid moment []) r.consistent (death_fits t caller.sid moment r.consistent alive)
 
+pub expiries_reach : (setup : Setup) → KeptByExpiry setup IsReached
+expiries_reach setup low t caller call r =
+    reached_by low (expired_by setup (view t) caller call) t r (expired_fits setup t caller call r.consistent) (expired_numbers low setup t caller call)
+
 pub calls_reach : (setup : Setup) → KeptByCalls setup IsReached
-calls_reach setup low t by number moment call reply caller r legal of above =
+calls_reach setup low t by number moment call caller r legal of above =
     let high = raise low caller.sid.pid number in
-    let holds = call_holds setup low t by number moment call reply caller r legal of above in
-    reached_by high (outcome setup (view t) caller call).changes t (reached_more low caller.sid.pid number t r above legal.numbered.1) (call_fits setup low t by number moment call reply caller r legal of above)
+    let holds = call_holds setup low t by number moment call caller r legal of above in
+    reached_by high (conclude (view t) (decide setup (view t) caller call)).changes t (reached_more low caller.sid.pid number t r above legal.numbered.1) (call_fits setup low t by number moment call caller r legal of above)
     (conclude_along (Numbers high) (λ sid call t. tt) (λ t. tt) t (decide setup (view t) caller call) holds.numbers.changes holds.numbers.waits (λ post i u. tt))
 
 pub deaths_reach : (setup : Setup) → KeptByDeaths setup IsReached
@@ -144,6 +150,7 @@ start_consistent setup s = record {
   handles_differ = tt;
   opens_have_leases = refl;
   durable_are_leased = refl;
+  marked_may_delete = refl;
   opens_last = refl;
   owners_had = refl;
   leases_differ = tt;
@@ -155,6 +162,7 @@ start_consistent setup s = record {
   waits_differ = tt;
   receivers_live = refl;
   pids_differ = start_pids 1 setup.workers s.pids_differ;
+  pending_differ = tt;
 }
 
 pub start_reached : (setup : Setup) → IsSetup setup → IsReached (λ pid. 0) (start setup)
@@ -175,7 +183,7 @@ start_reached setup s = record {
 
 pub legal_is_reached : (setup : Setup) (history : List Entry) → IsSetup setup → IsLegal setup history → (low : ℕ → ℕ) × IsReached low (after setup history)
 legal_is_reached setup history s legal =
-    along_history setup s IsReached (calls_reach setup) (deaths_reach setup) (λ pid. 0) (start setup) history (start_reached setup s) legal.entries (λ worker info d. legal.rising worker)
+    along_history setup s IsReached (expiries_reach setup) (calls_reach setup) (deaths_reach setup) (λ pid. 0) (start setup) history (start_reached setup s) legal.entries (λ worker info d. legal.rising worker)
 
 pub legal_is_sound : (setup : Setup) (history : List Entry) → IsSetup setup → IsLegal setup history → IsSound (after setup history)
 legal_is_sound setup history s legal =

@@ -35,6 +35,7 @@ use Rattle.serial_table.specs.History.{start, start_workers, after_event}
 use Rattle.serial_table.proofs.Callers.{is_caller_of, one_worker}
 use Rattle.serial_table.proofs.Concluding.{PassesFinishing, conclude_all, no_more_all}
 use Rattle.serial_table.proofs.SameWorkers.{workers-perform}
+use Rattle.serial_table.proofs.Expiring.{behind, outcome_table, expired_workers, lives_behind}
 use Rattle.serial_table.proofs.SessionOwed.{disconnected_lives, ended_sessions, disconnected_sessions}
 use Rattle.serial_table.proofs.Scoped.{decided_keeps}
 use Rattle.serial_table.proofs.Workers.{worker_lives, declared_is, concluded_workers, kept_workers}
@@ -80,12 +81,19 @@ alike setup t u worker same = go (declared_at setup.workers worker) refl
 
 -- ---- after a call
 
+row_behind : (setup : Setup) (t : Table) (caller : Caller) (call : Call) → lives (view t) caller.sid ≡ true → (pid : ℕ)
+    → row_alive (find (has_pid pid) (perform_all (conclude (view t) (decide setup (view t) caller call)).changes t).workers) ≡ row_alive (find (has_pid pid) t.workers)
+row_behind setup t caller call.Disconnect live pid =
+    ap (λ ws. row_alive (find (has_pid pid) ws)) (concluded_workers (disconnect (view t) caller) t) ∙ disconnected_lives t caller live pid
+row_behind setup t caller call live pid =
+    ap (λ ws. row_alive (find (has_pid pid) ws)) (kept_workers (decide setup (view t) caller call) t (decided_keeps setup (view t) caller call refl))
+
 row_after_call : (setup : Setup) (t : Table) (caller : Caller) (call : Call) → lives (view t) caller.sid ≡ true → (pid : ℕ)
     → row_alive (find (has_pid pid) (perform_all (outcome setup (view t) caller call).changes t).workers) ≡ row_alive (find (has_pid pid) t.workers)
-row_after_call setup t caller call.Disconnect live pid =
-    ap (λ ws. row_alive (find (has_pid pid) ws)) (concluded_workers (disconnect (view t) caller) t) ∙ disconnected_lives t caller live pid
 row_after_call setup t caller call live pid =
-    ap (λ ws. row_alive (find (has_pid pid) ws)) (kept_workers (decide setup (view t) caller call) t (decided_keeps setup (view t) caller call refl))
+    ap (λ (u : Table). row_alive (find (has_pid pid) u.workers)) (outcome_table setup t caller call)
+    ∙ row_behind setup (behind setup t caller call) caller call (lives_behind setup t caller call live) pid
+    ∙ ap (λ ws. row_alive (find (has_pid pid) ws)) (expired_workers setup t caller call)
 
 pub alive_after_call : (setup : Setup) (t : Table) (by number : ℕ) (moment : Moment) (call : Call) (reply : Reply) (worker : ℕ)
     → is_alive setup (view (after_event setup t by (Called number moment call reply))) worker ≡ is_alive setup (view t) worker
@@ -135,6 +143,8 @@ found_perform pid (c.SetLease file name held breaking) t e = refl
 found_perform pid (c.Acknowledge file name state) t e = refl
 found_perform pid (c.AddRange range) t e = refl
 found_perform pid (c.DropRange range) t e = refl
+found_perform pid (c.AddPending file) t e = refl
+found_perform pid (c.DropPending file) t e = refl
 found_perform pid (c.AddHold hold) t e = refl
 found_perform pid (c.SetHold key owner mode) t e = refl
 found_perform pid (c.DropHold key owner) t e = refl
@@ -188,11 +198,16 @@ more_sessions : (n : ℕ) (workers : List WorkerRow) → AllByRecursion (λ (w :
 more_sessions n [] all = tt
 more_sessions n (w ∷ workers) all = (let h : w.session ≤ n = all.0 in omega arith, more_sessions n workers all.1)
 
-sessions_called : (setup : Setup) (t : Table) (caller : Caller) (call : Call) (n : ℕ) → SessionsUpTo n t → SessionsUpTo (n + 1) (perform_all (outcome setup (view t) caller call).changes t)
-sessions_called setup t caller call.Disconnect n all =
+sessions_behind : (setup : Setup) (t : Table) (caller : Caller) (call : Call) (n : ℕ) → SessionsUpTo n t → SessionsUpTo (n + 1) (perform_all (conclude (view t) (decide setup (view t) caller call)).changes t)
+sessions_behind setup t caller call.Disconnect n all =
     subst (AllByRecursion (λ (w : WorkerRow). w.session ≤ n + 1)) (sym (concluded_workers (disconnect (view t) caller) t)) (disconnected_sessions t caller n all)
-sessions_called setup t caller call n all =
+sessions_behind setup t caller call n all =
     subst (AllByRecursion (λ (w : WorkerRow). w.session ≤ n + 1)) (sym (kept_workers (decide setup (view t) caller call) t (decided_keeps setup (view t) caller call refl))) (more_sessions n t.workers all)
+
+sessions_called : (setup : Setup) (t : Table) (caller : Caller) (call : Call) (n : ℕ) → SessionsUpTo n t → SessionsUpTo (n + 1) (perform_all (outcome setup (view t) caller call).changes t)
+sessions_called setup t caller call n all =
+    subst (SessionsUpTo (n + 1)) (sym (outcome_table setup t caller call))
+    (sessions_behind setup (behind setup t caller call) caller call n (subst (AllByRecursion (λ (w : WorkerRow). w.session ≤ n)) (sym (expired_workers setup t caller call)) all))
 
 sessions_dying : (t : Table) (caller : Caller) (moment : Moment) (n : ℕ) → SessionsUpTo n t → SessionsUpTo (n + 1) (perform_all (conclude (view t) (end_of_session (view t) caller.sid moment [])).changes t)
 sessions_dying t caller moment n all =

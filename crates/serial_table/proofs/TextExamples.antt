@@ -6,6 +6,7 @@ use Rattle.sid_core.specs.declared.call.Mode.TheVariants.{Exclusive}
 use Rattle.sid_core.specs.declared.entry.Event.TheVariants.{Called, Died, Tidied}
 use Rattle.sid_core.specs.declared.entry.Letter.TheVariants.{Wake, Break}
 use Rattle.sid_core.specs.declared.reply.Reply.TheVariants.{Pending, Unsuccessful, InvalidParameter, AccessDenied, ObjectNameNotFound, SharingViolation, FileLockConflict, DeletePending, LockNotGranted, RangeNotLocked, RequestNotAccepted, FileClosed, PossibleDeadlock, InvalidLockRange, Granted, Done, Scavenged, Message, NoMessage, Shown}
+use Rattle.serial_table.specs.Expire.{expired_by}
 use Rattle.serial_table.specs.declared.table.Table.{Table}
 use Rattle.serial_table.specs.Settle.{settle_by_key}
 use Rattle.serial_table.specs.Decision.{conclude}
@@ -108,5 +109,5 @@ abbrev two_wait : Table
 two_wait = record nothing_open { waiters = waits (sid 102 3) 4 (OpenOf 2) (sid 101 1) ∷ waits (sid 102 3) 1 (OpenOf 1) (sid 101 1) ∷ [] }
 
 letters_stand_under_the_line : block setup two_wait (dies 1 1 60) ≡ codes "1 died" ++ 10 ∷ (codes "  -> 2 WAKE 4" ++ 10 ∷ (codes "  -> 2 WAKE 1" ++ 10 ∷ []))
-unfolding conclude end_of_session caller_of settle_by_key digits
+unfolding conclude expired_by end_of_session caller_of settle_by_key digits
 letters_stand_under_the_line = refl

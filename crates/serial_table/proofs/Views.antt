@@ -22,12 +22,13 @@ use Rattle.serial_table.specs.declared.rows.Breaking.{Breaking}
 use Rattle.serial_table.specs.declared.table.Table.{Table}
 use Rattle.serial_table.specs.declared.change.Change.{Change}
 use Rattle.serial_table.specs.declared.change.Change.TheVariants as c
-use Rattle.serial_table.specs.View.{View, view, is_of_file, is_of_handle, has_id, has_name, is_range_of, is_hold_of, waits_on, waits_behind, waits_for, is_to, has_pid, is_end_of, watch_on, watch_behind, token_of}
+use Rattle.serial_table.specs.View.{View, view, is_of_file, is_of_handle, has_id, has_name, is_range_of, is_hold_of, waits_on, waits_behind, waits_for, is_to, has_pid, is_end_of, names_file, watch_on, watch_behind, token_of}
 use Rattle.serial_table.specs.File.{FileView, file_view, is_under}
-use Rattle.serial_table.specs.Settle.{settle_where, settle_by_key, settled_lease, broken_to_needed, row_stays, range_stays, lease_settles, lease_stays}
+use Rattle.serial_table.specs.Settle.{settle_where, settle_by_key, settled_lease, broken_to_needed, row_stays, range_stays, lease_settles, lease_stays, pending_stays}
 use Rattle.serial_table.specs.Change.{perform, perform_all, perform_by_key, perform_all_by_key, is_open, is_other_open, is_other_range, is_other_wait, new_owner, new_owner_by_key, set_lease, is_lease, same_range, same_mode, is_hold, set_hold, outlives, range_outlives, end_session, begin_session, end_at}
 use Rattle.serial_table.proofs.Filters.{filter-filter, filter-map, filter_kept, filter-drop_first, find-map, any_filtered, map-filter}
 use Rattle.serial_table.proofs.Names.{same_sid-eq}
+use Rattle.serial_table.proofs.Pending.{named_kept, named_added}
 
 -- ---- rows that keep their keys
 
@@ -222,6 +223,8 @@ view-perform (c.SetLease file name held breaking) t = λ i. record (view t) { le
 view-perform (c.Acknowledge file name state) t = λ i. record (view t) { leases_of = λ n. leases_set file name state None n t.leases i }
 view-perform (c.AddRange range) t = λ i. record (view t) { ranges_of = λ f. filter-append (is_range_of f) t.ranges (range ∷ []) i }
 view-perform (c.DropRange range) t = λ i. record (view t) { ranges_of = λ f. filter-drop_first (range.file == f) (same_range range) (is_range_of f) (same_file range f) t.ranges i }
+view-perform (c.AddPending file) t = λ i. record (view t) { is_pending = λ f. named_added file f t.pending i }
+view-perform (c.DropPending file) t = λ i. record (view t) { is_pending = λ f. named_kept (λ pending. not (names_file file pending)) f t.pending i }
 view-perform (c.AddHold hold) t = λ i. record (view t) { holds_of = λ k. filter-append (is_hold_of k) t.holds (hold ∷ []) i }
 view-perform (c.SetHold key owner mode) t = λ i. record (view t) { holds_of = λ k. filter-map (is_hold_of k) (set_hold key owner mode) (λ h. ap (λ n. n == k) (key-set_hold key owner mode h)) t.holds i }
 view-perform (c.DropHold key owner) t = λ i. record (view t) { holds_of = λ k. filter-filter (is_hold_of k) (λ hold. not (is_hold key owner hold)) t.holds i }
@@ -257,6 +260,7 @@ view-perform c.Settle t = λ i. record (view t) {
   opens_of_id = λ o. filter-filter (has_id o) (row_stays (λ file. true) (view t)) t.opens i;
   ranges_of = λ f. filter-filter (is_range_of f) (range_stays (λ file. true) (view t)) t.ranges i;
   leases_of = λ n. leases_settle (view t) n t.leases i;
+  is_pending = λ f. named_kept (pending_stays (λ file. true) (view t)) f t.pending i;
 }
 
 pub view-perform_all : (cs : List Change) (t : Table) → view (perform_all cs t) ≡ perform_all_by_key cs (view t)

@@ -3,6 +3,7 @@ use Rattle.std.specs.Prelude.{ℕ, Bool, false, ◌&&◌, List, [], filter, find
 use Rattle.std.specs.Option.{option_map, option_map_or}
 use Rattle.sid_core.specs.declared.ids.Sid.{Sid}
 use Rattle.sid_core.specs.declared.ids.LeaseName.{LeaseName}
+use Rattle.sid_core.specs.declared.ids.Moment.{Moment}
 use Rattle.sid_core.specs.Ids.{same_name}
 use Rattle.serial_table.specs.declared.rows.OpenRow.{OpenRow}
 use Rattle.serial_table.specs.declared.rows.LeaseRow.{LeaseRow}
@@ -29,9 +30,9 @@ alone file t = record {
   pending = [];
 }
 
--- what they show of the file: all but its ranges and who waits
+-- what they show of the file: all but its ranges, who waits, and whether it is to go
 abbrev pub opens_and_leases : FileView → FileView
-opens_and_leases f = record f { ranges = []; open_watches = []; range_watches = [] }
+opens_and_leases f = record f { ranges = []; open_watches = []; range_watches = []; pending = false }
 
 abbrev pub shown : ℕ → Lists → FileView
 shown file rows = file_view file (view (table_of rows))
@@ -55,5 +56,5 @@ abbrev pub is_own : Option LeaseName → LeaseName → Bool
 is_own own name = option_map_or (same_name name) own false
 
 -- the break of the file's first lease of a name, if there is one
-unfoldable pub break_named : ℕ → FileView → ℕ → LeaseName → Breaks
-break_named file f kept name = break_first file f kept (f.leases name)
+unfoldable pub break_named : Moment → ℕ → FileView → ℕ → LeaseName → Breaks
+break_named now file f kept name = break_first now file f kept (f.leases name)

@@ -3,6 +3,7 @@ use Rattle.std.specs.Prelude.{◌≡◌, ◌≢◌, ◌<◌, ◌+◌, ◌^◌, �
 use Rattle.sid_core.specs.declared.entry.Post.{Post}
 use Rattle.sid_core.specs.declared.entry.Event.{Event}
 use Rattle.sid_core.specs.declared.entry.Event.TheVariants.{Called, Died, Tidied}
+use Rattle.sid_core.specs.declared.reply.Reply.{Reply}
 use Rattle.sid_core.specs.declared.setup.Setup.{Setup}
 use Rattle.serial_table.specs.declared.apply.Apply.{Apply}
 use Rattle.serial_table.specs.declared.apply.Apply.TheVariants as refusals
@@ -28,6 +29,12 @@ pub record Accepts (setup : Setup) (by : ℕ) (event : Event) (old new : Table) 
   pub answers : AnswersEvent setup old by event
   pub table : new ≡ after_event setup old by event
   pub posts_are : posts ≡ posts_of setup (view old) by event
+
+-- The table's reply is another than the given one; or want of memory, of which nothing is said.
+abbrev pub DiffersFrom : Reply → Reply → Apply → Type 0
+DiffersFrom reply own (refusals.Differs given) = (own ≡ given) × (given ≢ reply)
+DiffersFrom reply own (refusals.NotAlive worker) = ⊥
+DiffersFrom reply own refusals.OutOfMemory = Unit {0}
 
 -- Why: the table's reply is another one; the worker that calls or dies isn't declared or is dead; or want of memory, of which
 -- nothing is said.

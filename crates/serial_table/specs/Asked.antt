@@ -13,13 +13,14 @@ use Rattle.serial_table.specs.declared.decision.Caller.{Caller}
 use Rattle.serial_table.specs.Share.{share_conflict}
 use Rattle.serial_table.specs.View.{View, carries}
 use Rattle.serial_table.specs.File.{FileView, FileOpen, is_under}
+use Rattle.serial_table.specs.Delete.{may_delete}
 
 -- a lease of the caller's client
 abbrev pub own_lease : Caller → ℕ → LeaseName
 own_lease caller key = record { guid = caller.guid; key = key }
 
-abbrev pub asked_of : Caller → ℕ → Access → Share → Option LeaseAsk → ℕ → Bool → Asked
-asked_of caller file access share lease durable overwrite = record {
+abbrev pub asked_of : Caller → ℕ → Access → Share → Option LeaseAsk → ℕ → Bool → Bool → Asked
+asked_of caller file access share lease durable overwrite delete = record {
   file = file;
   access = access;
   share = share;
@@ -27,11 +28,17 @@ asked_of caller file access share lease durable overwrite = record {
   state = option_map_or (λ (ask : LeaseAsk). ask.state) lease (lease_state 0);
   durable = durable;
   overwrite = overwrite;
+  delete = delete;
+  moment = caller.moment;
 }
 
 -- reading and writing attributes and waiting alone: FILE_READ_ATTRIBUTES, FILE_WRITE_ATTRIBUTES, SYNCHRONIZE
 abbrev pub is_stat : Access → Bool
 is_stat access = is_part_of access.0 0x100180
+
+-- The file is to go once this open is closed, but the access has no right to delete.
+abbrev pub deletes_without_right : Asked → Bool
+deletes_without_right asked = asked.delete && not (may_delete asked.access)
 
 -- the name is a lease of another file
 abbrev pub is_elsewhere : View → Asked → Bool

@@ -20,7 +20,7 @@ use Rattle.serial_table.specs.declared.rows.EndedRow.{EndedRow}
 use Rattle.serial_table.specs.declared.table.Table.{Table}
 use Rattle.serial_table.specs.declared.change.Change.{Change}
 use Rattle.serial_table.specs.declared.change.Change.TheVariants as c
-use Rattle.serial_table.specs.View.{View, view, is_to, is_of_handle, is_range_of, is_hold_of, is_end_of, has_name, with_open, with_waiter, keeping_opens, keeping_waits}
+use Rattle.serial_table.specs.View.{View, view, is_to, is_of_handle, is_range_of, is_hold_of, is_end_of, has_name, names_file, with_open, with_waiter, keeping_opens, keeping_waits}
 use Rattle.serial_table.specs.Lists.{drop_first}
 use Rattle.serial_table.specs.Settle.{settle, settle_by_key}
 
@@ -64,6 +64,10 @@ is_hold key owner hold = (hold.key == key) && same_sid hold.owner owner
 unfoldable pub set_hold : ℕ → Sid → Mode → HoldRow → HoldRow
 set_hold key owner mode hold = if is_hold key owner hold then record hold { mode = mode } else hold
 
+-- The file is among those to go, once.
+unfoldable pub with_pending : ℕ → List ℕ → List ℕ
+with_pending file files = if list_any (names_file file) files then files else files ++ file ∷ []
+
 -- ---- what goes with a session that ends: its opens that aren't durable with their ranges, its holds, waiters and letters
 
 abbrev pub outlives : Sid → OpenRow → Bool
@@ -94,6 +98,8 @@ perform (c.SetLease file name held breaking) t = record t { leases = map (set_le
 perform (c.Acknowledge file name state) t = record t { leases = map (set_lease file name state None) t.leases }
 perform (c.AddRange range) t = record t { ranges = t.ranges ++ range ∷ [] }
 perform (c.DropRange range) t = record t { ranges = drop_first (same_range range) t.ranges }
+perform (c.AddPending file) t = record t { pending = with_pending file t.pending }
+perform (c.DropPending file) t = record t { pending = filter (λ pending. not (names_file file pending)) t.pending }
 perform (c.AddHold hold) t = record t { holds = t.holds ++ hold ∷ [] }
 perform (c.SetHold key owner mode) t = record t { holds = map (set_hold key owner mode) t.holds }
 perform (c.DropHold key owner) t = record t { holds = filter (λ hold. not (is_hold key owner hold)) t.holds }
@@ -138,6 +144,8 @@ perform_by_key (c.SetLease file name held breaking) v = record v { leases_of = �
 perform_by_key (c.Acknowledge file name state) v = record v { leases_of = λ n. map (set_lease file name state None) (v.leases_of n) }
 perform_by_key (c.AddRange range) v = record v { ranges_of = λ f. v.ranges_of f ++ filter (is_range_of f) (range ∷ []) }
 perform_by_key (c.DropRange range) v = record v { ranges_of = λ f. drop_first (same_range range) (v.ranges_of f) }
+perform_by_key (c.AddPending file) v = record v { is_pending = λ f. names_file file f || v.is_pending f }
+perform_by_key (c.DropPending file) v = record v { is_pending = λ f. v.is_pending f && not (names_file file f) }
 perform_by_key (c.AddHold hold) v = record v { holds_of = λ k. v.holds_of k ++ filter (is_hold_of k) (hold ∷ []) }
 perform_by_key (c.SetHold key owner mode) v = record v { holds_of = λ k. map (set_hold key owner mode) (v.holds_of k) }
 perform_by_key (c.DropHold key owner) v = record v { holds_of = λ k. filter (λ hold. not (is_hold key owner hold)) (v.holds_of k) }

@@ -63,6 +63,10 @@ outcome_with decision woken = record {
   posts = decision.posts ++ map wake woken;
 }
 
+-- these changes come first
+abbrev pub preceded : List Change → Outcome → Outcome
+preceded first done = record done { changes = first ++ done.changes }
+
 -- the spots that are freed, in the decision's order
 abbrev pub freed_spots : View → Decision → List Spot
 freed_spots v decision = filter (some_frees (settling decision) v) decision.spots

@@ -20,6 +20,7 @@ pub record FileView : Type 0 where
   pub ranges : List RangeRow
   pub open_watches : List Watch
   pub range_watches : List Watch
+  pub pending : Bool
 
 -- an open of a file, by who lives
 abbrev pub file_open : (Sid → Bool) → OpenRow → FileOpen
@@ -32,6 +33,7 @@ file_view file v = record {
   ranges = v.ranges_of file;
   open_watches = v.watches_on (OpenOf file);
   range_watches = v.watches_on (RangesOf file);
+  pending = v.is_pending file;
 }
 
 -- it carries this lease

@@ -61,7 +61,7 @@ grant_lease f asked name = lease_by name asked (allowed f asked) (f.leases name)
 abbrev pub is_durable : Asked → LeaseGrant → Bool
 is_durable asked lease = not (asked.durable == 0) && (has lease.held 2 && not lease.breaks)
 
--- An open that isn't durable has 0 seconds.
+-- An open that isn't durable has 0 seconds. It is marked where its file is to go once it is closed.
 abbrev pub new_open : Caller → Asked → Bool → OpenRow
 new_open caller asked durable = record {
   id = record { pid = caller.sid.pid; call = caller.number };
@@ -73,7 +73,7 @@ new_open caller asked durable = record {
   lease = asked.lease;
   durable = if durable then asked.durable else 0;
   opened = caller.moment;
-  marked = false;
+  marked = asked.delete;
 }
 
 abbrev pub grant_plain : Caller → Asked → Breaks → Decision

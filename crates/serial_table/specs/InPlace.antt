@@ -55,6 +55,7 @@ pub record HasRoom (lists : Lists) (more : ℕ) : Type 0 where
   pub waiters : vec_len lists.waiters + more ≤ vec_capacity lists.waiters
   pub letters : vec_len lists.letters + more ≤ vec_capacity lists.letters
   pub ended : vec_len lists.ended + more ≤ vec_capacity lists.ended
+  pub pending : vec_len lists.pending + more ≤ vec_capacity lists.pending
 
 -- no list has taken more room, and none has more than one row more
 pub record KeepsRoom (old new : Lists) : Type 0 where
@@ -65,6 +66,7 @@ pub record KeepsRoom (old new : Lists) : Type 0 where
   pub waiters : (vec_capacity new.waiters ≡ vec_capacity old.waiters) × (vec_len new.waiters ≤ vec_len old.waiters + 1)
   pub letters : (vec_capacity new.letters ≡ vec_capacity old.letters) × (vec_len new.letters ≤ vec_len old.letters + 1)
   pub ended : (vec_capacity new.ended ≡ vec_capacity old.ended) × (vec_len new.ended ≤ vec_len old.ended + 1)
+  pub pending : (vec_capacity new.pending ≡ vec_capacity old.pending) × (vec_len new.pending ≤ vec_len old.pending + 1)
 
 -- the files that a scope holds
 abbrev pub in_scope : Scope → ℕ → Bool
@@ -81,6 +83,8 @@ is_of_files (c.SetLease file name held breaking) = true
 is_of_files (c.Acknowledge file name state) = true
 is_of_files (c.AddRange range) = true
 is_of_files (c.DropRange range) = true
+is_of_files (c.AddPending file) = true
+is_of_files (c.DropPending file) = true
 is_of_files _ = false
 
 abbrev pub is_elsewhere : Change → Bool
@@ -110,7 +114,8 @@ abbrev pub AreEnough : Scope → List Change → Table → Type 0
 AreEnough scope [] t = Unit {0}
 AreEnough scope (change ∷ changes) t = IsEnough scope change t × AreEnough scope changes (perform change t)
 
--- ---- settling without memory: the leases first, then by these the ranges and the opens, and last the leases that have no open
+-- ---- settling without memory: the leases first, then by these the ranges and the opens, and last the leases and the
+-- pending files that have no open
 
 abbrev pub is_lease_of : ℕ → LeaseRow → Bool
 is_lease_of file lease = lease.file == file
@@ -144,6 +149,9 @@ range_goes here test opens range = here range.file && list_any (goes_with test r
 
 abbrev pub lease_goes : (ℕ → Bool) → List OpenRow → LeaseRow → Bool
 lease_goes here opens lease = here lease.file && not (list_any (is_under_lease lease) opens)
+
+abbrev pub pending_goes : (ℕ → Bool) → List OpenRow → ℕ → Bool
+pending_goes here opens file = here file && not (list_any (is_of_file file) opens)
 
 abbrev pub without_what_goes : (ℕ → Bool) → Table → Table
 without_what_goes here t = record t {
@@ -180,9 +188,10 @@ pub record IsReady (decision : Decision) (waiters : ℕ) (ready : Ready) : Type 
   pub woken : (ready.woken.items ≡ []) × ((vec_len ready.woken ≡ 0) × (vec_len ready.candidates * (waiters + vec_len ready.changes) ≤ vec_capacity ready.woken))
   pub posts : (ready.posts.items ≡ []) × ((vec_len ready.posts ≡ 0) × (length decision.posts + vec_len ready.candidates * (waiters + vec_len ready.changes) ≤ vec_capacity ready.posts))
 
--- ---- the file that a call's changes are of: by its opens and leases alone does a file settle
+-- ---- the file that a call's changes are of: by its opens and leases, and by whether it is to go, does a
+-- file settle
 
--- the file whose opens or leases it changes
+-- the file of which it changes that
 abbrev pub file_of_change : Change → Option ℕ
 file_of_change (c.AddOpen open_row) = Some open_row.file
 file_of_change (c.DropOpen file id) = Some file
@@ -190,6 +199,8 @@ file_of_change (c.TakeOver file id owner handle) = Some file
 file_of_change (c.AddLease lease) = Some lease.file
 file_of_change (c.SetLease file name held breaking) = Some file
 file_of_change (c.Acknowledge file name state) = Some file
+file_of_change (c.AddPending file) = Some file
+file_of_change (c.DropPending file) = Some file
 file_of_change _ = None
 
 -- the first of these, or 0

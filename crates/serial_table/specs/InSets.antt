@@ -11,6 +11,7 @@ use Rattle.sid_core.specs.declared.entry.Letter.{Letter}
 use Rattle.sid_core.specs.declared.entry.Letter.TheVariants.{Wake, Break}
 use Rattle.sid_core.specs.declared.entry.Post.{Post}
 use Rattle.sid_core.specs.declared.setup.Setup.{Setup}
+use Rattle.sid_core.specs.declared.limits.TheConstants.{MAX_MOMENT}
 use Rattle.sid_core.specs.Values.{IsU32, IsU64, IsAccess, IsShare, IsState, IsMoment, IsSpan, is_part_of}
 use Rattle.sid_core.specs.Setup.{IsDeclared}
 use Rattle.serial_table.specs.declared.rows.OpenRow.{OpenRow}
@@ -103,8 +104,8 @@ pub record IsBreaking (breaking : Breaking) : Type 0 where
   pub asked : IsState breaking.asked.0
   -- What is needed by now is a state.
   pub needed : IsState breaking.needed.0
-  -- The moment at which it counts as acknowledged is one of the script's clock.
-  pub until : IsMoment breaking.until.0
+  -- It counts as acknowledged 35 seconds after a moment of the script's clock.
+  pub until : (35 ≤ breaking.until.0) × (breaking.until.0 ≤ MAX_MOMENT + 35)
 
 pub record IsLeaseRow (setup : Setup) (lease : LeaseRow) : Type 0 where
   -- Its guid and its key have 64 bits.
@@ -113,7 +114,7 @@ pub record IsLeaseRow (setup : Setup) (lease : LeaseRow) : Type 0 where
   pub file : IsFileNumber setup lease.file
   -- What it holds is a state.
   pub held : IsState lease.held.0
-  -- So are the states of its break, whose end is a moment of the script's clock.
+  -- So are the states of its break, whose end is 35 seconds after a moment of the script's clock.
   pub breaking : IfSome lease.breaking IsBreaking
 
 pub record IsRangeRow (setup : Setup) (range : RangeRow) : Type 0 where
@@ -213,6 +214,7 @@ Brings setup (c.TakeOver file id owner handle) t = IsU32 handle
 Brings setup (c.AddLease lease) t = IsLeaseRow setup lease
 Brings setup (c.SetLease file name held breaking) t = IsState held.0 × IfSome breaking IsBreaking
 Brings setup (c.AddRange range) t = IsRangeRow setup range
+Brings setup (c.AddPending file) t = IsFileNumber setup file
 Brings setup (c.AddHold hold) t = IsU64 hold.key
 Brings setup (c.AddWaiter waiter) t = IsU32 waiter.call × IsSpot setup waiter.spot
 Brings setup (c.Send post) t = IsLetter setup post.letter

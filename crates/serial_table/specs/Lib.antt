@@ -8,6 +8,7 @@ pub mod Local
 pub mod Wake
 pub mod Decision
 pub mod Break
+pub mod Delete
 pub mod Asked
 pub mod Grant
 pub mod Open
@@ -25,6 +26,7 @@ pub mod ByNumber
 pub mod Durable
 pub mod Reconnect
 pub mod Scavenge
+pub mod Expire
 pub mod Decide
 pub mod Step
 pub mod Alive

@@ -26,6 +26,8 @@ perform_in_file (c.SetLease file name held breaking) f = record f { leases = λ 
 perform_in_file (c.Acknowledge file name state) f = record f { leases = λ n. map (set_lease file name state None) (f.leases n) }
 perform_in_file (c.AddRange range) f = record f { ranges = f.ranges ++ range ∷ [] }
 perform_in_file (c.DropRange range) f = record f { ranges = drop_first (same_range range) f.ranges }
+perform_in_file (c.AddPending file) f = record f { pending = true }
+perform_in_file (c.DropPending file) f = record f { pending = false }
 perform_in_file (c.DropWaiter sid call) f = without sid call f
 perform_in_file c.Settle f = settle_file f
 perform_in_file _ f = f
@@ -43,6 +45,8 @@ is_in alive file (c.SetLease g name held breaking) = g == file
 is_in alive file (c.Acknowledge g name state) = g == file
 is_in alive file (c.AddRange range) = range.file == file
 is_in alive file (c.DropRange range) = range.file == file
+is_in alive file (c.AddPending g) = g == file
+is_in alive file (c.DropPending g) = g == file
 is_in alive file (c.DropWaiter sid call) = true
 is_in alive file c.Settle = true
 is_in alive file _ = false

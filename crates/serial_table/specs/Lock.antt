@@ -40,7 +40,7 @@ wait_for_range caller file true blocker = record (only_reply Pending) { waits = 
 
 -- by the ranges that are in the way
 abbrev pub lock_by : FileView → Caller → Span → Mode → Bool → OpenRow → List RangeRow → Decision
-lock_by f caller span mode wait open_row [] = grant_range open_row span mode (break_others open_row.file f none_of_them open_row.lease)
+lock_by f caller span mode wait open_row [] = grant_range open_row span mode (break_others caller.moment open_row.file f none_of_them open_row.lease)
 lock_by f caller span mode wait open_row (first ∷ others) = wait_for_range caller open_row.file wait (range_blocker f first)
 
 -- An open may lock that reads or writes.

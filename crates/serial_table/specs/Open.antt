@@ -3,7 +3,7 @@ use Rattle.std.specs.Prelude.{Bool, false, ◌&&◌, not, Option, Some, None, if
 use Rattle.std.specs.List.{list_any}
 use Rattle.sid_core.specs.declared.ids.Sid.{Sid}
 use Rattle.sid_core.specs.declared.ids.Spot.TheVariants.{OpenOf}
-use Rattle.sid_core.specs.declared.reply.Reply.TheVariants.{SharingViolation, InvalidParameter, Pending}
+use Rattle.sid_core.specs.declared.reply.Reply.TheVariants.{SharingViolation, InvalidParameter, AccessDenied, DeletePending, Pending}
 use Rattle.serial_table.specs.declared.rows.WaiterRow.{WaiterRow}
 use Rattle.serial_table.specs.declared.decision.Caller.{Caller}
 use Rattle.serial_table.specs.declared.decision.Decision.{Decision}
@@ -12,20 +12,20 @@ use Rattle.serial_table.specs.File.{FileView, file_view}
 use Rattle.serial_table.specs.Local.{perform_all_in_file}
 use Rattle.serial_table.specs.Decision.{only_reply, spots_of, no_longer_waits}
 use Rattle.serial_table.specs.Break.{Breaks, no_break, both, break_each, break_others, names_of, all_but_handle, all_but_write, none_of_them}
-use Rattle.serial_table.specs.Asked.{Asked, is_stat, is_elsewhere, in_conflict, refuses}
+use Rattle.serial_table.specs.Asked.{Asked, is_stat, deletes_without_right, is_elsewhere, in_conflict, refuses}
 use Rattle.serial_table.specs.Grant.{grant}
 
 -- ---- the breaks
 
 -- HANDLE of each lease of the opens that conflict
 unfoldable pub handle_breaks : FileView → Asked → Breaks
-handle_breaks f asked = break_each asked.file f all_but_handle (names_of (in_conflict f asked))
+handle_breaks f asked = break_each asked.moment asked.file f all_but_handle (names_of (in_conflict f asked))
 
 -- WRITE, or all three bits to overwrite, of each other lease of the file. Who only asks for attributes breaks nothing.
 unfoldable pub other_breaks : FileView → Asked → Breaks
 other_breaks f asked =
     if is_stat asked.access && not asked.overwrite then no_break
-    else break_others asked.file f (if asked.overwrite then none_of_them else all_but_write) asked.lease
+    else break_others asked.moment asked.file f (if asked.overwrite then none_of_them else all_but_write) asked.lease
 
 -- ---- the steps
 
@@ -51,12 +51,18 @@ go_on f caller asked done (Some blocker) = wait_for_open caller asked done block
 go_on f caller asked done None =
     wait_or_grant f caller asked (both done (other_breaks (perform_all_in_file done.changes f) asked)) (other_breaks (perform_all_in_file done.changes f) asked).blocker
 
--- The asked lease may not be of another file; no open that conflicts may refuse; then the breaks, and the grant.
+-- No open that conflicts may refuse; then the breaks, and the grant.
+abbrev pub open_shared : FileView → Caller → Asked → Decision
+open_shared f caller asked =
+    if list_any (refuses f asked) (in_conflict f asked) then only_reply SharingViolation
+    else go_on f caller asked (handle_breaks f asked) (handle_breaks f asked).blocker
+
+-- Who marks its open has to have the right to delete. The asked lease may not be of another file, and the file may not be to go.
 unfoldable pub open_by : Bool → FileView → Caller → Asked → Decision
 open_by elsewhere f caller asked =
-    if elsewhere then only_reply InvalidParameter
-    else (if list_any (refuses f asked) (in_conflict f asked) then only_reply SharingViolation
-    else go_on f caller asked (handle_breaks f asked) (handle_breaks f asked).blocker)
+    if deletes_without_right asked then only_reply AccessDenied
+    else (if elsewhere then only_reply InvalidParameter
+    else (if f.pending then only_reply DeletePending else open_shared f caller asked))
 
 -- The caller no longer waits for the file's opens, whatever follows.
 unfoldable pub open_file : View → Caller → Asked → Decision

@@ -2,6 +2,7 @@
 use Rattle.std.specs.Prelude.{ℕ, Bool, ◌==◌, ◌&&◌, ◌||◌, not, List, [], ◌∷◌, if◌then◌else◌}
 use Rattle.std.specs.List.{list_any}
 use Rattle.sid_core.specs.declared.call.Span.{Span}
+use Rattle.sid_core.specs.declared.ids.Moment.{Moment}
 use Rattle.sid_core.specs.declared.reply.Reply.TheVariants.{Done, FileClosed, AccessDenied, InvalidParameter, FileLockConflict}
 use Rattle.sid_core.specs.Ids.{same_id}
 use Rattle.sid_core.specs.Values.{has}
@@ -52,14 +53,14 @@ abbrev pub written : OpenRow → Breaks → Decision
 written open_row breaks = record (only_reply Done) { changes = breaks.changes; posts = breaks.posts; spots = spots_of open_row.file }
 
 -- An open may write that writes or appends data.
-abbrev pub write_file : FileView → Span → OpenRow → Decision
-write_file f span open_row =
-    if_allowed f open_row 0x6 span (forbids_write open_row span) (written open_row (break_others open_row.file f none_of_them open_row.lease))
+abbrev pub write_file : Moment → FileView → Span → OpenRow → Decision
+write_file now f span open_row =
+    if_allowed f open_row 0x6 span (forbids_write open_row span) (written open_row (break_others now open_row.file f none_of_them open_row.lease))
 
 -- the open that the handle names, if any
-abbrev pub write_first : View → Span → List OpenRow → Decision
-write_first v span [] = only_reply FileClosed
-write_first v span (open_row ∷ others) = write_file (file_view open_row.file v) span open_row
+abbrev pub write_first : Moment → View → Span → List OpenRow → Decision
+write_first now v span [] = only_reply FileClosed
+write_first now v span (open_row ∷ others) = write_file now (file_view open_row.file v) span open_row
 
 unfoldable pub write : View → Caller → ℕ → Span → Decision
-write v caller handle span = write_first v span (v.opens_of_handle caller.sid handle)
+write v caller handle span = write_first caller.moment v span (v.opens_of_handle caller.sid handle)

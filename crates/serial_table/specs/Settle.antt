@@ -37,12 +37,17 @@ keeps_range f range = not (list_any (λ o. same_id o.row.id range.id && not (kee
 abbrev pub keeps_lease : FileView → LeaseRow → Bool
 keeps_lease f lease = list_any (λ o. is_under lease.name o && keeps_open f o) f.opens
 
--- a file after the three, in this order
+-- (d) A file without opens isn't pending.
+abbrev pub keeps_pending : FileView → Bool
+keeps_pending f = list_any (keeps_open f) f.opens
+
+-- a file after the four, in this order
 unfoldable pub settle_file : FileView → FileView
 settle_file f = record f {
   opens = filter (keeps_open f) f.opens;
   ranges = filter (keeps_range f) f.ranges;
   leases = λ name. filter (keeps_lease f) (map (settled_lease f) (f.leases name));
+  pending = f.pending && keeps_pending f;
 }
 
 -- ---- the same of the rows of files that pass a test; the rows of other files stay as they are
@@ -59,11 +64,15 @@ lease_settles here v lease = if here lease.file then settled_lease (file_view le
 abbrev pub lease_stays : (ℕ → Bool) → View → LeaseRow → Bool
 lease_stays here v lease = not (here lease.file) || keeps_lease (file_view lease.file v) lease
 
+abbrev pub pending_stays : (ℕ → Bool) → View → ℕ → Bool
+pending_stays here v file = not (here file) || keeps_pending (file_view file v)
+
 unfoldable pub settle_where : (ℕ → Bool) → Table → Table
 settle_where here t = record t {
   opens = filter (row_stays here (view t)) t.opens;
   ranges = filter (range_stays here (view t)) t.ranges;
   leases = filter (lease_stays here (view t)) (map (lease_settles here (view t)) t.leases);
+  pending = filter (pending_stays here (view t)) t.pending;
 }
 
 -- the table after all its files have settled
@@ -74,4 +83,5 @@ settle t = settle_where (λ file. true) t
 unfoldable pub settle_by_key : View → View
 settle_by_key v = record (keeping_opens (row_stays (λ file. true) v) (range_stays (λ file. true) v) v) {
   leases_of = λ name. filter (lease_stays (λ file. true) v) (map (lease_settles (λ file. true) v) (v.leases_of name));
+  is_pending = λ file. v.is_pending file && pending_stays (λ file. true) v file;
 }

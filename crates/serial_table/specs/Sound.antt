@@ -1,5 +1,5 @@
 -- What holds of every table that a legal history makes, of a setup that a script can declare; and what a change asks for that.
-use Rattle.std.specs.Prelude.{is_some, nat_le, ◌<◌, ◌≡◌, ℕ, Bool, true, false, ◌==◌, ◌&&◌, ◌||◌, not, List, [], ◌∷◌, Option, Some, None}
+use Rattle.std.specs.Prelude.{is_some, nat_le, nat_eq, ◌<◌, ◌≡◌, ℕ, Bool, true, false, ◌==◌, ◌&&◌, ◌||◌, not, List, [], ◌∷◌, Option, Some, None}
 use Rattle.std.specs.List.{AllByRecursion, IsDistinct, list_any, list_all}
 use Rattle.std.specs.Option.{option_map_or}
 use Rattle.sid_core.specs.declared.call.Mode.{Mode}
@@ -17,8 +17,9 @@ use Rattle.serial_table.specs.declared.rows.WorkerRow.{WorkerRow}
 use Rattle.serial_table.specs.declared.change.Change.{Change}
 use Rattle.serial_table.specs.declared.change.Change.TheVariants as c
 use Rattle.serial_table.specs.declared.table.Table.{Table}
-use Rattle.serial_table.specs.View.{View, view, lives, carries, has_pid, waits_behind}
+use Rattle.serial_table.specs.View.{View, view, lives, carries, is_of_file, has_pid, waits_behind}
 use Rattle.serial_table.specs.Change.{perform, same_mode}
+use Rattle.serial_table.specs.Delete.{may_delete}
 
 -- ---- opens
 
@@ -44,6 +45,10 @@ holds_handle leases open_row =
 -- not durable, or under a lease
 abbrev pub is_leased_if_durable : OpenRow → Bool
 is_leased_if_durable open_row = not (is_durable open_row) || is_some open_row.lease
+
+-- not marked, or with the right to delete
+abbrev pub may_delete_if_marked : OpenRow → Bool
+may_delete_if_marked open_row = not open_row.marked || may_delete open_row.access
 
 -- connected, or durable
 abbrev pub lasts : View → OpenRow → Bool
@@ -107,6 +112,8 @@ pub record IsConsistent (t : Table) : Type 0 where
   pub opens_have_leases : list_all (has_its_lease t.leases) t.opens ≡ true
   -- A durable open carries a lease.
   pub durable_are_leased : list_all is_leased_if_durable t.opens ≡ true
+  -- A marked open has the right to delete.
+  pub marked_may_delete : list_all may_delete_if_marked t.opens ≡ true
   -- The owner of an open lives, or the open is durable.
   pub opens_last : list_all (lasts (view t)) t.opens ≡ true
   -- The owner of an open is a session that its worker has had.
@@ -129,6 +136,8 @@ pub record IsConsistent (t : Table) : Type 0 where
   pub receivers_live : list_all (λ post. lives (view t) post.to) t.letters ≡ true
   -- No two workers have one pid.
   pub pids_differ : IsDistinct have_same_pid t.workers
+  -- A file that is to go is named once.
+  pub pending_differ : IsDistinct nat_eq t.pending
 
 -- ---- what holds once it has settled
 
@@ -144,6 +153,10 @@ has_open opens lease = list_any (is_open_under lease) opens
 abbrev pub may_break : Table → LeaseRow → Bool
 may_break t lease = not (is_some lease.breaking) || list_any (λ open_row. is_open_under lease open_row && lives (view t) open_row.owner) t.opens
 
+-- some open is of it
+abbrev pub is_opened : List OpenRow → ℕ → Bool
+is_opened opens file = list_any (is_of_file file) opens
+
 pub record IsSound (t : Table) : Type 0 where
   -- Its rows agree.
   pub rows : IsConsistent t
@@ -153,15 +166,18 @@ pub record IsSound (t : Table) : Type 0 where
   pub leases_have_opens : list_all (has_open t.opens) t.leases ≡ true
   -- A breaking lease has an open that is connected.
   pub breaking_are_connected : list_all (may_break t) t.leases ≡ true
+  -- A file that is to go has an open.
+  pub pending_have_opens : list_all (is_opened t.opens) t.pending ≡ true
 
 -- ---- what a change asks of the table before it, so that it keeps it consistent
 
--- an open that is added has an id and a handle of its own, its owner lives, and its lease is there
+-- an open that is added has an id and a handle of its own, its owner lives, its lease is there, and marked it may delete
 pub record IsNewOpen (open_row : OpenRow) (t : Table) : Type 0 where
   pub id : list_any (λ other. have_same_id other open_row) t.opens ≡ false
   pub handle : list_any (λ other. have_same_handle other open_row) t.opens ≡ false
   pub owner : lives (view t) open_row.owner ≡ true
   pub leased : is_leased_if_durable open_row ≡ true
+  pub marked : may_delete_if_marked open_row ≡ true
   pub lease : has_its_lease t.leases open_row ≡ true
 
 -- a lease that is added has a name of its own, and its states agree

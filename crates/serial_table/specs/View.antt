@@ -1,5 +1,6 @@
 -- What the table shows under each key: what the record of that key tells. A call reads this and the setup, and nothing else.
 use Rattle.std.specs.Prelude.{ℕ, Bool, true, false, ◌==◌, ◌&&◌, List, ◌++◌, [], ◌∷◌, Option, filter, map, find}
+use Rattle.std.specs.List.{list_any}
 use Rattle.std.specs.Option.{option_map_or}
 use Rattle.sid_core.specs.declared.ids.Sid.{Sid}
 use Rattle.sid_core.specs.declared.ids.OpenId.{OpenId}
@@ -48,6 +49,8 @@ pub record View : Type 0 where
   pub worker_of : ℕ → Option WorkerRow
   -- the ended sessions of a pid
   pub ended_of : ℕ → List EndedRow
+  -- whether a file is to go once its last open is closed
+  pub is_pending : ℕ → Bool
 
 -- ---- which rows stand under a key
 
@@ -90,6 +93,9 @@ has_pid pid worker = worker.pid == pid
 abbrev pub is_end_of : ℕ → EndedRow → Bool
 is_end_of pid ended = ended.sid.pid == pid
 
+abbrev pub names_file : ℕ → ℕ → Bool
+names_file file pending = pending == file
+
 -- ---- what is told of a waiter: its session and call, and of a lock whether it asks for more than it holds
 
 abbrev pub is_lock : Spot → Bool
@@ -120,6 +126,7 @@ view t = record {
   letters_of = λ sid. filter (is_to sid) t.letters;
   worker_of = λ pid. find (has_pid pid) t.workers;
   ended_of = λ pid. filter (is_end_of pid) t.ended;
+  is_pending = λ file. list_any (names_file file) t.pending;
 }
 
 -- The session is the current one of a living worker.

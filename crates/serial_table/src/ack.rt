@@ -16,7 +16,7 @@ use crate::lease_break::{LeaseBreak, break_by_owner, is_part_of};
 use crate::rows::{Breaking, LeaseRow};
 use crate::table::Table;
 use crate::view;
-use sid_core::{LeaseName, LeaseState, OutOfMemory, Reply};
+use sid_core::{LeaseName, LeaseState, Moment, OutOfMemory, Reply};
 use std::alloc::Global;
 
 fn lease_of_name(table: &Table, name: LeaseName) -> Option<LeaseRow>
@@ -43,11 +43,12 @@ fn acknowledged(lease: &LeaseRow, state: LeaseState) -> LeaseRow
 /// What is broken again at once: all that isn't needed of what is acknowledged.
 fn break_again(
     table: &Table,
+    now: Moment,
     lease: &LeaseRow,
     state: LeaseState,
     needed: LeaseState,
 ) -> Option<LeaseBreak>
-    ensures { breaks_if_any lease.now.file lease.now result ≡ break_lease lease.now.file (file_view lease.now.file (view table.now)) needed.0 (acknowledged lease.now state) }
+    ensures { breaks_if_any lease.now.file lease.now result ≡ break_lease now lease.now.file (file_view lease.now.file (view table.now)) needed.0 (acknowledged lease.now state) }
 {
     let to = owner_under(
         table.opens.as_slice(),
@@ -55,7 +56,7 @@ fn break_again(
         lease.file,
         lease.name,
     );
-    break_by_owner(lease.file, to, needed, &acknowledged(lease, state))
+    break_by_owner(now, lease.file, to, needed, &acknowledged(lease, state))
 }
 
 fn accept(
@@ -80,26 +81,32 @@ fn accept(
 
 fn ack_breaking(
     table: &Table,
+    now: Moment,
     lease: &LeaseRow,
     state: LeaseState,
     breaking: Breaking,
 ) -> Result<Decision, OutOfMemory>
-    ensures { IfOk result (λ decision. decision ≡ ack_lease (file_view lease.now.file (view table.now)) lease.now state (Some breaking)) }
+    ensures { IfOk result (λ decision. decision ≡ ack_lease now (file_view lease.now.file (view table.now)) lease.now state (Some breaking)) }
 {
     let alloc = table.leases.allocator();
     if is_part_of(state, breaking.asked) {
-        let again = break_again(table, lease, state, breaking.needed);
+        let again = break_again(table, now, lease, state, breaking.needed);
         accept(alloc, lease, state, again)
     } else {
         Ok(decision::only_reply(alloc, Reply::RequestNotAccepted))
     }
 }
 
-fn ack_lease(table: &Table, lease: &LeaseRow, state: LeaseState) -> Result<Decision, OutOfMemory>
-    ensures { IfOk result (λ decision. (others : List LeaseRow) → decision ≡ ack_first (view table.now) (lease.now ∷ others) state) }
+fn ack_lease(
+    table: &Table,
+    now: Moment,
+    lease: &LeaseRow,
+    state: LeaseState,
+) -> Result<Decision, OutOfMemory>
+    ensures { IfOk result (λ decision. (others : List LeaseRow) → decision ≡ ack_first now (view table.now) (lease.now ∷ others) state) }
 {
     match lease.breaking {
-        Some(breaking) => ack_breaking(table, lease, state, breaking),
+        Some(breaking) => ack_breaking(table, now, lease, state, breaking),
         None => Ok(decision::only_reply(table.leases.allocator(), Reply::Unsuccessful)),
     }
 }
@@ -114,7 +121,7 @@ pub(crate) fn ack(
     ensures { IfOk result (λ decision. decision ≡ ack (view table.now) caller.now key state) }
 {
     match lease_of_name(table, own_lease(caller, key)) {
-        Some(lease) => ack_lease(table, &lease, state),
+        Some(lease) => ack_lease(table, caller.moment, &lease, state),
         None => Ok(decision::only_reply(table.leases.allocator(), Reply::ObjectNameNotFound)),
     }
 }

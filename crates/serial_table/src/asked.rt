@@ -6,12 +6,14 @@ ghost use Rattle.sid_core.specs.Words.{lease_state};
 ghost use Rattle.sid_core.specs.Values.{has};
 ghost use Rattle.serial_table.specs.View.{view, is_of_file};
 ghost use Rattle.serial_table.specs.Break.{names_of};
-ghost use Rattle.serial_table.specs.Asked.{own_lease, asked_of, is_stat, is_elsewhere, in_conflict, holds_handle, is_asked_and_connected, refuses};
+ghost use Rattle.serial_table.specs.File.{file_view};
+ghost use Rattle.serial_table.specs.Asked.{own_lease, asked_of, is_stat, deletes_without_right, is_elsewhere, conflicts, in_conflict, holds_handle, is_asked_and_connected, refuses};
 ghost use Rattle.serial_table.specs.Alone.{shown, is_connected_under};
 ghost use Rattle.serial_table.specs.OpenAt.{row_conflicts, row_refuses};
 
 use crate::breaks::{each_once, is_connected_under};
 use crate::decision::Caller;
+use crate::delete::may_delete;
 use crate::lists::Lists;
 use crate::rows::{LeaseRow, OpenRow};
 use crate::settle::is_lease_of;
@@ -19,9 +21,9 @@ use crate::share::share_conflict;
 use crate::table::Table;
 use crate::view;
 use bitflags::Flags;
-use sid_core::{Access, LeaseAsk, LeaseName, LeaseState, OutOfMemory, Share};
+use sid_core::{Access, LeaseAsk, LeaseName, LeaseState, Moment, OutOfMemory, Share};
 
-/// What an `open` asks for. The lease has its whole name here; `state` is what is asked of it.
+/// What an `open` asks for, and when. The lease has its whole name here; `state` is what is asked of it.
 #[derive(Clone, Copy)]
 pub(crate) struct Asked {
     pub(crate) file: u32,
@@ -31,6 +33,8 @@ pub(crate) struct Asked {
     pub(crate) state: LeaseState,
     pub(crate) durable: u32,
     pub(crate) overwrite: bool,
+    pub(crate) delete: bool,
+    pub(crate) moment: Moment,
 }
 
 /// Reading and writing attributes and waiting alone: FILE_READ_ATTRIBUTES, FILE_WRITE_ATTRIBUTES, SYNCHRONIZE.
@@ -71,8 +75,9 @@ pub(crate) fn asked_of(
     lease: Option<LeaseAsk>,
     durable: u32,
     overwrite: bool,
+    delete: bool,
 ) -> Asked
-    ensures { result ≡ asked_of caller.now file access share lease durable overwrite }
+    ensures { result ≡ asked_of caller.now file access share lease durable overwrite delete }
 {
     Asked {
         file,
@@ -82,6 +87,8 @@ pub(crate) fn asked_of(
         state: asked_state(lease),
         durable,
         overwrite,
+        delete,
+        moment: caller.moment,
     }
 }
 
@@ -89,6 +96,13 @@ pub(crate) fn is_stat(access: Access) -> bool
     ensures { result ≡ is_stat access }
 {
     access.0 & STAT.0 == access.0
+}
+
+/// Whether the file is to go once this open is closed, but the access has no right to delete.
+pub(crate) fn deletes_without_right(asked: &Asked) -> bool
+    ensures { result ≡ deletes_without_right asked.now }
+{
+    asked.delete && !may_delete(asked.access)
 }
 
 // ---- a lease of another file
@@ -159,6 +173,22 @@ fn refuses(rows: &Lists, asked: &Asked, row: &OpenRow) -> bool
         }
         None => true,
     }
+}
+
+fn some_conflicts(opens: &[OpenRow], asked: &Asked) -> bool
+    ensures { result ≡ list_any (row_conflicts asked.now) (filter (is_of_file asked.now.file) opens.now) }
+{
+    opens
+        .iter()
+        .filter(|row| view::is_of_file(asked.file, row))
+        .any(|row| conflicts(asked, row))
+}
+
+/// Whether an open of the file conflicts.
+pub(crate) fn meets_conflict(table: &Table, asked: &Asked) -> bool
+    ensures { result ≡ list_any (conflicts asked.now) (file_view asked.now.file (view table.now)).opens }
+{
+    some_conflicts(table.opens.as_slice(), asked)
 }
 
 fn some_refuses(rows: &Lists, asked: &Asked) -> bool

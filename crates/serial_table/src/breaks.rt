@@ -21,7 +21,7 @@ use crate::rows::{LeaseRow, OpenRow, WorkerRow};
 use crate::settle::is_lease_of;
 use crate::table::Table;
 use crate::view;
-use sid_core::{Items, LeaseName, LeaseState, OutOfMemory, Post, Reply, Sid};
+use sid_core::{Items, LeaseName, LeaseState, Moment, OutOfMemory, Post, Reply, Sid};
 use std::alloc::Global;
 
 /// The bits that stay where HANDLE is broken: READ and WRITE.
@@ -195,12 +195,13 @@ fn make(
 fn break_lease(
     rows: &mut Lists,
     done: &mut Breaks,
+    now: Moment,
     file: u32,
     kept: LeaseState,
     lease: &LeaseRow,
 ) -> Result<(), OutOfMemory>
-    ensures done { OnOk result (breaks_of done.new ≡ both (breaks_of done.old) (break_lease file (shown file rows.old) kept.0 lease.now)) }
-    ensures rows { OnOk result (shown file rows.new ≡ perform_all_in_file (break_lease file (shown file rows.old) kept.0 lease.now).changes (shown file rows.old)) }
+    ensures done { OnOk result (breaks_of done.new ≡ both (breaks_of done.old) (break_lease now file (shown file rows.old) kept.0 lease.now)) }
+    ensures rows { OnOk result (shown file rows.new ≡ perform_all_in_file (break_lease now file (shown file rows.old) kept.0 lease.now).changes (shown file rows.old)) }
 {
     let to = owner_under(
         rows.opens.as_slice(),
@@ -213,22 +214,23 @@ fn break_lease(
         done,
         file,
         lease,
-        break_by_owner(file, to, kept, lease),
+        break_by_owner(now, file, to, kept, lease),
     )
 }
 
 fn break_named(
     rows: &mut Lists,
     done: &mut Breaks,
+    now: Moment,
     file: u32,
     kept: LeaseState,
     name: LeaseName,
 ) -> Result<(), OutOfMemory>
-    ensures done { OnOk result (breaks_of done.new ≡ both (breaks_of done.old) (break_named file (shown file rows.old) kept.0 name)) }
-    ensures rows { OnOk result (shown file rows.new ≡ perform_all_in_file (break_named file (shown file rows.old) kept.0 name).changes (shown file rows.old)) }
+    ensures done { OnOk result (breaks_of done.new ≡ both (breaks_of done.old) (break_named now file (shown file rows.old) kept.0 name)) }
+    ensures rows { OnOk result (shown file rows.new ≡ perform_all_in_file (break_named now file (shown file rows.old) kept.0 name).changes (shown file rows.old)) }
 {
     match lease_named(rows.leases.as_slice(), file, name) {
-        Some(lease) => break_lease(rows, done, file, kept, &lease),
+        Some(lease) => break_lease(rows, done, now, file, kept, &lease),
         None => Ok(()),
     }
 }
@@ -239,15 +241,16 @@ fn break_named(
 pub(crate) fn break_each(
     rows: &mut Lists,
     done: &mut Breaks,
+    now: Moment,
     file: u32,
     kept: LeaseState,
     names: &[LeaseName],
 ) -> Result<(), OutOfMemory>
-    ensures done { OnOk result (breaks_of done.new ≡ both (breaks_of done.old) (break_each file (shown file rows.old) kept.0 names.now)) }
-    ensures rows { OnOk result (shown file rows.new ≡ perform_all_in_file (break_each file (shown file rows.old) kept.0 names.now).changes (shown file rows.old)) }
+    ensures done { OnOk result (breaks_of done.new ≡ both (breaks_of done.old) (break_each now file (shown file rows.old) kept.0 names.now)) }
+    ensures rows { OnOk result (shown file rows.new ≡ perform_all_in_file (break_each now file (shown file rows.old) kept.0 names.now).changes (shown file rows.old)) }
 {
     for name in names {
-        break_named(rows, done, file, kept, *name)?;
+        break_named(rows, done, now, file, kept, *name)?;
     }
     Ok(())
 }
@@ -280,7 +283,12 @@ pub(crate) fn each_once(alloc: Global, all: &[LeaseName]) -> Result<Vec<LeaseNam
     Ok(names)
 }
 
-fn carried(alloc: Global, opens: &[OpenRow], file: u32) -> Result<Vec<LeaseName>, OutOfMemory>
+/// The lease names that the opens of the file carry.
+pub(crate) fn carried(
+    alloc: Global,
+    opens: &[OpenRow],
+    file: u32,
+) -> Result<Vec<LeaseName>, OutOfMemory>
     ensures { IfOk result (λ names. names.items ≡ filter_map (λ o. o.lease) (filter (is_of_file file) opens.now)) }
 {
     let names = opens
@@ -317,29 +325,31 @@ fn names_of(alloc: Global, rows: &Lists, file: u32) -> Result<Vec<LeaseName>, Ou
 pub(crate) fn break_others(
     rows: &mut Lists,
     done: &mut Breaks,
+    now: Moment,
     file: u32,
     kept: LeaseState,
     own: Option<LeaseName>,
 ) -> Result<(), OutOfMemory>
-    ensures done { OnOk result (breaks_of done.new ≡ both (breaks_of done.old) (break_others file (shown file rows.old) kept.0 own)) }
-    ensures rows { OnOk result (shown file rows.new ≡ perform_all_in_file (break_others file (shown file rows.old) kept.0 own).changes (shown file rows.old)) }
+    ensures done { OnOk result (breaks_of done.new ≡ both (breaks_of done.old) (break_others now file (shown file rows.old) kept.0 own)) }
+    ensures rows { OnOk result (shown file rows.new ≡ perform_all_in_file (break_others now file (shown file rows.old) kept.0 own).changes (shown file rows.old)) }
 {
     let mut names = names_of(rows.alloc(), rows, file)?;
     drop_own(&mut names, own);
-    break_each(rows, done, file, kept, names.as_slice())
+    break_each(rows, done, now, file, kept, names.as_slice())
 }
 
 /// Breaks all bits but those kept of each lease of the table's file other than the own one, at a copy of the file's rows.
 pub(crate) fn breaks_of_others(
     table: &Table,
+    now: Moment,
     file: u32,
     kept: LeaseState,
     own: Option<LeaseName>,
 ) -> Result<Breaks, OutOfMemory>
-    ensures { IfOk result (λ breaks. breaks_of breaks ≡ break_others file (file_view file (view table.now)) kept.0 own) }
+    ensures { IfOk result (λ breaks. breaks_of breaks ≡ break_others now file (file_view file (view table.now)) kept.0 own) }
 {
     let mut rows = rows_alone(table, file)?;
     let mut done = no_break(rows.alloc());
-    break_others(&mut rows, &mut done, file, kept, own)?;
+    break_others(&mut rows, &mut done, now, file, kept, own)?;
     Ok(done)
 }

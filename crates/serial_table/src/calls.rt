@@ -4,9 +4,9 @@ ghost use Rattle.serial_table.specs.Settle.{settle};
 ghost use Rattle.serial_table.specs.Change.{perform_all};
 ghost use Rattle.serial_table.specs.Decision.{settling, conclude};
 ghost use Rattle.std.specs.List.{list_all};
-ghost use Rattle.serial_table.specs.Decide.{outcome};
+ghost use Rattle.serial_table.specs.Decide.{decide, outcome};
 ghost use Rattle.serial_table.specs.Step.{caller_of, caller_if_alive};
-ghost use Rattle.serial_table.specs.Apply.{HasNext, Accepts, Refuses};
+ghost use Rattle.serial_table.specs.Apply.{HasNext, Accepts, DiffersFrom, Refuses};
 ghost use Rattle.serial_table.specs.InPlace.{AreEnough, is_made, scope_of};
 
 use crate::apply::Apply;
@@ -98,8 +98,29 @@ impl Table {
         self.conclude(scope_of(call, decision.changes.as_slice()), decision)
     }
 
+    /// Carries out a call of a caller who lives, in place, behind what expires before it. A refusal changes nothing.
+    fn call_behind(
+        &mut self,
+        setup: &Setup,
+        caller: &Caller,
+        call: Call,
+    ) -> Result<(Reply, Items<Post>), OutOfMemory>
+        requires settled { settle self.old ≡ self.old }
+        requires next { caller.now.sid.session + 1 < 2 ^ 32 }
+        requires lives { lives (view self.old) caller.now.sid ≡ true }
+        ensures changed { OnOk result (self.new ≡ perform_all (conclude (view self.old) (decide setup.now (view self.old) caller.now call)).changes self.old) }
+        ensures reply { IfOk result (λ answer. answer.0 ≡ (decide setup.now (view self.old) caller.now call).reply) }
+        ensures posts { IfOk result (λ answer. answer.1 ≡ (conclude (view self.old) (decide setup.now (view self.old) caller.now call)).posts) }
+        ensures err { OnErr result (self.new ≡ self.old) }
+    {
+        let decision = decide(setup, self, caller, call)?;
+        let posts = self.conclude_call(&call, &decision)?;
+        Ok((decision.reply, Items::from_vec(posts)))
+    }
+
     /// Carries out a call of a caller who lives, in place, and gives the reply and the letters that it posts. It costs a few scans of
-    /// the table's lists; `scavenge` costs a sort of the expired opens besides. A refusal changes nothing.
+    /// the table's lists; `scavenge` costs a sort of the expired opens besides. Only where a break expires at which the call looks does it
+    /// work on a copy of the table. A refusal changes nothing.
     pub fn call(
         &mut self,
         setup: &Setup,
@@ -115,9 +136,67 @@ impl Table {
         ensures settled { settle self.new ≡ self.new }
         ensures err { OnErr result (self.new ≡ self.old) }
     {
+        match self.expired(setup, caller, &call)? {
+            Some(mut behind) => {
+                let answer = behind.call_behind(setup, caller, call)?;
+                *self = behind;
+                Ok(answer)
+            }
+            None => self.call_behind(setup, caller, call),
+        }
+    }
+
+    /// Carries out a call of a caller who lives where its reply is this one, in place, behind what expires before it.
+    fn apply_behind(
+        &mut self,
+        setup: &Setup,
+        caller: &Caller,
+        call: Call,
+        reply: Reply,
+    ) -> Result<Vec<Post>, Apply>
+        requires settled { settle self.old ≡ self.old }
+        requires next { caller.now.sid.session + 1 < 2 ^ 32 }
+        requires lives { lives (view self.old) caller.now.sid ≡ true }
+        ensures changed { OnOk result (self.new ≡ perform_all (conclude (view self.old) (decide setup.now (view self.old) caller.now call)).changes self.old) }
+        ensures reply { OnOk result ((decide setup.now (view self.old) caller.now call).reply ≡ reply) }
+        ensures posts { IfOk result (λ posts. posts.items ≡ (conclude (view self.old) (decide setup.now (view self.old) caller.now call)).posts) }
+        ensures cause { IfErr result (DiffersFrom reply (decide setup.now (view self.old) caller.now call).reply) }
+        ensures same { OnErr result (self.new ≡ self.old) }
+    {
         let decision = decide(setup, self, caller, call)?;
-        let posts = self.conclude_call(&call, &decision)?;
-        Ok((decision.reply, Items::from_vec(posts)))
+        if !is_same_reply(decision.reply, reply) {
+            return Err(Apply::Differs(decision.reply));
+        }
+        Ok(self.conclude_call(&call, &decision)?)
+    }
+
+    /// Carries out a call of a caller who lives where its reply is this one.
+    fn apply_of(
+        &mut self,
+        setup: &Setup,
+        caller: &Caller,
+        call: Call,
+        reply: Reply,
+    ) -> Result<Vec<Post>, Apply>
+        requires settled { settle self.old ≡ self.old }
+        requires next { caller.now.sid.session + 1 < 2 ^ 32 }
+        requires lives { lives (view self.old) caller.now.sid ≡ true }
+        ensures changed { OnOk result (self.new ≡ perform_all (outcome setup.now (view self.old) caller.now call).changes self.old) }
+        ensures reply { OnOk result ((outcome setup.now (view self.old) caller.now call).reply ≡ reply) }
+        ensures posts { IfOk result (λ posts. posts.items ≡ (outcome setup.now (view self.old) caller.now call).posts) }
+        ensures cause { IfErr result (DiffersFrom reply (outcome setup.now (view self.old) caller.now call).reply) }
+        ensures same { OnErr result (self.new ≡ self.old) }
+    {
+        match self.expired(setup, caller, &call)? {
+            Some(mut behind) => match behind.apply_behind(setup, caller, call, reply) {
+                Ok(posts) => {
+                    *self = behind;
+                    Ok(posts)
+                }
+                Err(refusal) => Err(refusal),
+            },
+            None => self.apply_behind(setup, caller, call, reply),
+        }
     }
 
     fn apply_call(
@@ -138,11 +217,7 @@ impl Table {
         let Some(caller) = self.caller(setup, worker, number, moment) else {
             return Err(Apply::NotAlive(worker));
         };
-        let decision = decide(setup, self, &caller, call)?;
-        if !is_same_reply(decision.reply, reply) {
-            return Err(Apply::Differs(decision.reply));
-        }
-        Ok(self.conclude_call(&call, &decision)?)
+        self.apply_of(setup, &caller, call, reply)
     }
 
     fn apply_death(

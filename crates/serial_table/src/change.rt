@@ -34,6 +34,14 @@ pub enum Change {
     AddRange(RangeRow),
     /// The first range that is the same goes.
     DropRange(RangeRow),
+    /// The file is to go once its last open is closed. Where it is to go already, nothing changes.
+    AddPending {
+        file: u32,
+    },
+    /// The file is to stay.
+    DropPending {
+        file: u32,
+    },
     AddHold(HoldRow),
     /// The hold has this mode, and keeps its place.
     SetHold {
@@ -67,6 +75,6 @@ pub enum Change {
         sid: Sid,
         moment: Moment,
     },
-    /// Leases and opens that can't stay as they are follow the rules.
+    /// Leases, opens and pending files that can't stay as they are follow the rules.
     Settle,
 }

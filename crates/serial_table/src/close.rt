@@ -1,6 +1,6 @@
-ghost use Rattle.std.specs.Prelude.{◌≡◌, find, IfOk};
+ghost use Rattle.std.specs.Prelude.{◌≡◌, ◌∷◌, find, IfOk};
 ghost use Rattle.serial_table.specs.View.{view, is_of_handle};
-ghost use Rattle.serial_table.specs.Close.{close, close_open};
+ghost use Rattle.serial_table.specs.Close.{close, close_open, mark_passes};
 
 use crate::change::Change;
 use crate::decision::{self, Caller, Decision};
@@ -21,15 +21,26 @@ pub(crate) fn open_of_handle(table: &Table, owner: Sid, handle: u32) -> Option<O
         .find(|row| view::is_of_handle(owner, handle, row))
 }
 
-fn close_open(alloc: Global, row: &OpenRow) -> Result<Decision, OutOfMemory>
-    ensures { IfOk result (λ decision. decision ≡ close_open row.now) }
+/// The open goes, and where it is marked, its file is to go.
+fn changes_of_close(alloc: Global, row: &OpenRow) -> Result<Vec<Change>, OutOfMemory>
+    ensures { IfOk result (λ changes. changes.items ≡ Change.DropOpen row.now.file row.now.id ∷ mark_passes row.now) }
 {
     let dropped = Change::DropOpen {
         file: row.file,
         id: row.id,
     };
+    let mut changes = vec![in alloc; dropped]?;
+    if row.marked {
+        changes.push(Change::AddPending { file: row.file })?;
+    }
+    Ok(changes)
+}
+
+fn close_open(alloc: Global, row: &OpenRow) -> Result<Decision, OutOfMemory>
+    ensures { IfOk result (λ decision. decision ≡ close_open row.now) }
+{
     Ok(Decision {
-        changes: Items::from_vec(vec![in alloc; dropped]?),
+        changes: Items::from_vec(changes_of_close(alloc, row)?),
         reply: Reply::Done,
         posts: Items::new(alloc),
         spots: decision::spots_of(alloc, row.file)?,

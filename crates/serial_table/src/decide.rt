@@ -8,6 +8,7 @@ use crate::asked::asked_of;
 use crate::change::Change;
 use crate::close::close;
 use crate::decision::{Caller, Decision, only_reply};
+use crate::delete::delete;
 use crate::disconnect::disconnect;
 use crate::global_lock::{glock, gunlock};
 use crate::lists::Scope;
@@ -39,14 +40,16 @@ pub(crate) fn decide(
             lease,
             durable,
             overwrite,
-            ..
+            delete,
         } => open_file(
             table,
             caller,
-            &asked_of(caller, file, access, share, lease, durable, overwrite),
+            &asked_of(
+                caller, file, access, share, lease, durable, overwrite, delete,
+            ),
         ),
         Call::Close { handle } => close(table, caller, handle),
-        Call::Delete { .. } => Ok(only_reply(alloc, Reply::Unsuccessful)),
+        Call::Delete { handle, on } => delete(table, caller, handle, on),
         Call::Ack { key, state } => ack(table, caller, key, state),
         Call::Lock {
             handle,
@@ -68,7 +71,7 @@ pub(crate) fn decide(
     }
 }
 
-/// The file whose opens or leases the change changes.
+/// The file whose opens or leases the change changes, or that it sets to go or to stay.
 fn file_of_change(change: &Change) -> Option<u32>
     ensures { result ≡ file_of_change change.now }
 {
@@ -78,12 +81,14 @@ fn file_of_change(change: &Change) -> Option<u32>
         Change::DropOpen { file, .. }
         | Change::TakeOver { file, .. }
         | Change::SetLease { file, .. }
-        | Change::Acknowledge { file, .. } => Some(*file),
+        | Change::Acknowledge { file, .. }
+        | Change::AddPending { file }
+        | Change::DropPending { file } => Some(*file),
         _ => None,
     }
 }
 
-/// The first of the files whose opens or leases these change, or 0.
+/// The first of the files of which these change that, or 0.
 fn file_of_changes(changes: &[Change]) -> u32
     ensures { result ≡ file_of_changes changes.now }
 {
@@ -95,7 +100,7 @@ fn file_of_changes(changes: &[Change]) -> u32
     0
 }
 
-/// What has to settle after the call: all files, or the one whose opens or leases these changes change.
+/// What has to settle after the call: all files, or the one of which these changes change what settles.
 pub(crate) fn scope_of(call: &Call, changes: &[Change]) -> Scope
     ensures { result ≡ scope_of call.now changes.now }
 {

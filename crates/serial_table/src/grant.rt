@@ -1,19 +1,22 @@
-ghost use Rattle.std.specs.Prelude.{◌≡◌, ◌∷◌, [], ◌++◌, false, not, is_none, filter, IfOk, OnOk};
+ghost use Rattle.std.specs.Prelude.{◌≡◌, ◌∷◌, [], ◌++◌, false, not, is_none, filter, bit_and, IfOk, OnOk, if◌then◌else◌};
 ghost use Rattle.std.specs.Option.{option_map_or};
 ghost use Rattle.std.specs.List.{list_any};
-ghost use Rattle.serial_table.specs.View.{is_of_file, carries};
-ghost use Rattle.serial_table.specs.Break.{sets_lease};
+ghost use Rattle.serial_table.specs.View.{view, is_of_file, carries};
+ghost use Rattle.serial_table.specs.File.{file_view};
+ghost use Rattle.serial_table.specs.InPlace.{is_lease_of};
+ghost use Rattle.serial_table.specs.Break.{no_break, sets_lease, all_but_write};
 ghost use Rattle.serial_table.specs.Grant.{allowed, new_lease, old_lease, grant_lease, is_durable, new_open, grant_plain, grant_under, grant};
 ghost use Rattle.serial_table.specs.Alone.{shown, breaks_of};
 ghost use Rattle.serial_table.specs.OpenAt.{row_is_beside, change_if_any, grant_of};
 
 use crate::asked::{Asked, is_stat};
-use crate::breaks::{ALL_BUT_WRITE, Breaks, lease_named};
+use crate::breaks::{self, ALL_BUT_WRITE, Breaks, lease_named};
 use crate::change::Change;
 use crate::decision::{Caller, Decision};
 use crate::lease_break::is_part_of;
 use crate::lists::Lists;
 use crate::rows::{LeaseRow, OpenRow};
+use crate::table::Table;
 use crate::view;
 use bitflags::Flags;
 use sid_core::{LeaseName, LeaseState, OpenId, OutOfMemory, Reply};
@@ -44,23 +47,29 @@ fn is_beside(asked: &Asked, row: &OpenRow) -> bool
     !is_stat(row.access) && !is_under_asked(asked, row)
 }
 
-fn some_beside(rows: &Lists, asked: &Asked) -> bool
-    ensures { result ≡ list_any (row_is_beside asked.now) (filter (is_of_file asked.now.file) rows.now.opens.items) }
+fn some_beside(opens: &[OpenRow], asked: &Asked) -> bool
+    ensures { result ≡ list_any (row_is_beside asked.now) (filter (is_of_file asked.now.file) opens.now) }
 {
-    rows.opens
+    opens
         .iter()
         .filter(|row| view::is_of_file(asked.file, row))
         .any(|row| is_beside(asked, row))
 }
 
-fn allowed(rows: &Lists, asked: &Asked) -> LeaseState
-    ensures { result.0 ≡ allowed (shown asked.now.file rows.now) asked.now }
+fn allowed_beside(beside: bool, asked: &Asked) -> LeaseState
+    ensures { result.0 ≡ (if beside then bit_and asked.now.state.0 all_but_write else asked.now.state.0) }
 {
-    if some_beside(rows, asked) {
+    if beside {
         LeaseState(asked.state.0 & ALL_BUT_WRITE.0)
     } else {
         asked.state
     }
+}
+
+fn allowed(rows: &Lists, asked: &Asked) -> LeaseState
+    ensures { result.0 ≡ allowed (shown asked.now.file rows.now) asked.now }
+{
+    allowed_beside(some_beside(rows.opens.as_slice(), asked), asked)
 }
 
 fn new_lease(name: LeaseName, file: u32, may: LeaseState) -> LeaseGrant
@@ -147,7 +156,7 @@ fn new_open(caller: &Caller, asked: &Asked, durable: bool) -> OpenRow
         lease: asked.lease,
         durable: if durable { asked.durable } else { 0 },
         opened: caller.moment,
-        marked: false,
+        marked: asked.delete,
     }
 }
 
@@ -193,6 +202,29 @@ fn grant_under(
             durable,
         },
     )
+}
+
+fn new_lease_at(table: &Table, asked: &Asked, name: LeaseName) -> LeaseGrant
+    ensures { grant_of result ≡ new_lease name asked.now.file (allowed (file_view asked.now.file (view table.now)) asked.now) }
+{
+    let beside = some_beside(table.opens.as_slice(), asked);
+    new_lease(name, asked.file, allowed_beside(beside, asked))
+}
+
+/// What an `open` is granted of a file of which there is no lease.
+pub(crate) fn grant_unleased(
+    table: &Table,
+    caller: &Caller,
+    asked: &Asked,
+) -> Result<Decision, OutOfMemory>
+    requires none { list_any (is_lease_of asked.now.file) table.now.leases ≡ false }
+    ensures { IfOk result (λ decision. decision ≡ grant (file_view asked.now.file (view table.now)) caller.now asked.now no_break) }
+{
+    let done = breaks::no_break(table.opens.allocator());
+    match asked.lease {
+        Some(name) => grant_under(caller, asked, done, &new_lease_at(table, asked, name)),
+        None => grant_plain(caller, asked, done),
+    }
 }
 
 /// What an `open` is granted after these breaks, at the rows as they left them.

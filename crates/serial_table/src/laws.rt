@@ -4,6 +4,7 @@ ghost use Rattle.std.specs.Prelude.{◌≡◌, ◌==◌, ◌≤◌, ◌+◌, ℕ
 ghost use Rattle.std.specs.List.{IsDistinct};
 ghost use Rattle.sid_core.specs.declared.call.Call.{Call};
 ghost use Rattle.sid_core.specs.declared.reply.Reply.{Reply};
+ghost use Rattle.sid_core.specs.declared.ids.LeaseName.{LeaseName};
 ghost use Rattle.sid_core.specs.declared.ids.Moment.{Moment};
 ghost use Rattle.sid_core.specs.declared.entry.Entry.{Entry};
 ghost use Rattle.sid_core.specs.declared.entry.Event.{Event};
@@ -18,10 +19,11 @@ ghost use Rattle.serial_table.specs.Local.{is_in, all_in, perform_in_file, perfo
 ghost use Rattle.serial_table.specs.Share.{share_conflict};
 ghost use Rattle.serial_table.specs.Decision.{conclude};
 ghost use Rattle.serial_table.specs.Step.{caller_of, view_after};
-ghost use Rattle.serial_table.specs.History.{start, after_event, after_entry, after_all, IsLegalEvent, IsLegalEntry, AreLegal};
+ghost use Rattle.serial_table.specs.History.{start, after_event, after_entry, after_all, IsLegalEvent, IsLegalEntry, AreLegal, IsLegal};
 ghost use Rattle.serial_table.specs.File.{FileView, file_view};
 ghost use Rattle.serial_table.specs.Settle.{settle, settle_where, settle_file};
 ghost use Rattle.serial_table.specs.View.{View, view, lives};
+ghost use Rattle.serial_table.specs.Expire.{expire};
 ghost use Rattle.serial_table.specs.Alive.{is_alive, SessionsUpTo};
 ghost use Rattle.serial_table.specs.Change.{perform, perform_all, perform_by_key, perform_all_by_key};
 
@@ -41,6 +43,11 @@ pub fn changes_of_a_file_are_local()
 pub fn settled_stays_settled()
     ensures table { (t : Table) → settle (settle t) ≡ settle t }
     ensures file { (f : FileView) → settle_file (settle_file f) ≡ settle_file f }
+{}
+
+/// To let leases expire twice at one moment is to let them expire once.
+pub fn expired_stays_expired()
+    ensures { (names : List LeaseName) (now : Moment) (t : Table) → expire names now (expire names now t) ≡ expire names now t }
 {}
 
 /// Changes of one file take from another file that is settled no more than waiters, and it stays settled.
@@ -78,6 +85,11 @@ pub fn alike_tables_step_alike()
 pub fn histories_go_on()
     ensures table { (setup : Setup) (t : Table) (history : List Entry) (entry : Entry) → after_all setup t (history ++ entry ∷ []) ≡ after_entry setup (after_all setup t history) entry }
     ensures legal { (setup : Setup) (t : Table) (history : List Entry) (entry : Entry) → AreLegal setup t history → IsLegalEntry setup (after_all setup t history) entry → AreLegal setup t (history ++ entry ∷ []) }
+{}
+
+/// That a history is legal has one proof: a legal call is an equation on its answer.
+pub fn legality_has_one_proof()
+    ensures { (setup : Setup) (history : List Entry) (a b : IsLegal setup history) → a ≡ b }
 {}
 
 /// Whether two opens conflict doesn't depend on which came first.

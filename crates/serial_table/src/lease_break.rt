@@ -1,10 +1,13 @@
 ghost use Rattle.std.specs.Prelude.{◌≡◌, Some, None, bit_and};
 ghost use Rattle.sid_core.specs.Values.{is_part_of};
-ghost use Rattle.serial_table.specs.Break.{break_post, breaks_at_once, breaks_read, begins_to_break, new_breaking};
+ghost use Rattle.serial_table.specs.Break.{break_post, breaks_at_once, breaks_read, begins_to_break, until_of, new_breaking};
 ghost use Rattle.serial_table.specs.LeaseBreak.{breaks_by, breaks_if_any, breaks_of_owner, breaks_further_by, break_by_owner};
 
 use crate::rows::{Breaking, LeaseRow};
 use sid_core::{LeaseState, Letter, Moment, Post, Sid};
+
+/// How many seconds after a break it counts as acknowledged.
+const BREAK_SECONDS: u64 = 35;
 
 /// What breaking a lease comes to: what it holds and how it is breaking from now on, whether the file then settles, the letter that is
 /// posted, and who is waited for.
@@ -68,44 +71,63 @@ fn breaks_read(file: u32, to: Sid, lease: &LeaseRow, target: LeaseState) -> Leas
     }
 }
 
-fn new_breaking(target: LeaseState) -> Breaking
-    ensures { result ≡ new_breaking target.0 }
+/// The moment at which a break that is made now counts as acknowledged.
+fn until_of(now: Moment) -> Moment
+    ensures { result ≡ until_of now }
+{
+    Moment(now.0.saturating_add(BREAK_SECONDS))
+}
+
+fn new_breaking(now: Moment, target: LeaseState) -> Breaking
+    ensures { result ≡ new_breaking now target.0 }
 {
     Breaking {
         asked: target,
         needed: target,
-        until: Moment(0),
+        until: until_of(now),
     }
 }
 
-fn begins_to_break(file: u32, to: Sid, lease: &LeaseRow, target: LeaseState) -> LeaseBreak
-    ensures { breaks_by file lease.now result ≡ begins_to_break file to lease.now target.0 }
+fn begins_to_break(
+    now: Moment,
+    file: u32,
+    to: Sid,
+    lease: &LeaseRow,
+    target: LeaseState,
+) -> LeaseBreak
+    ensures { breaks_by file lease.now result ≡ begins_to_break now file to lease.now target.0 }
 {
     LeaseBreak {
         held: lease.held,
-        breaking: Some(new_breaking(target)),
+        breaking: Some(new_breaking(now, target)),
         settles: false,
         post: Some(break_post(file, to, lease, target, true)),
         blocker: Some(to),
     }
 }
 
-fn breaks_to(file: u32, to: Sid, lease: &LeaseRow, target: LeaseState) -> LeaseBreak
-    ensures { breaks_by file lease.now result ≡ breaks_of_owner file (Some to) lease.now target.0 }
+fn breaks_to(now: Moment, file: u32, to: Sid, lease: &LeaseRow, target: LeaseState) -> LeaseBreak
+    ensures { breaks_by file lease.now result ≡ breaks_of_owner now file (Some to) lease.now target.0 }
 {
     if lease.held == LeaseState::READ {
         breaks_read(file, to, lease, target)
     } else {
-        begins_to_break(file, to, lease, target)
+        begins_to_break(now, file, to, lease, target)
     }
 }
 
-fn breaks_of_owner(file: u32, to: Option<Sid>, lease: &LeaseRow, target: LeaseState) -> LeaseBreak
-    ensures { breaks_by file lease.now result ≡ breaks_of_owner file to lease.now target.0 }
+fn breaks_of_owner(
+    now: Moment,
+    file: u32,
+    to: Option<Sid>,
+    lease: &LeaseRow,
+    target: LeaseState,
+) -> LeaseBreak
+    ensures { breaks_by file lease.now result ≡ breaks_of_owner now file to lease.now target.0 }
 {
     match to {
         None => breaks_at_once(file, lease, target),
-        Some(to) => breaks_to(file, to, lease, target),
+        Some(to) => breaks_to(now, file, to, lease, target),
     }
 }
 
@@ -134,27 +156,34 @@ fn breaks_further(
     }
 }
 
-fn begin(file: u32, to: Option<Sid>, kept: LeaseState, lease: &LeaseRow) -> Option<LeaseBreak>
-    ensures { breaks_if_any file lease.now result ≡ break_by_owner file to kept.0 lease.now None }
-{
-    if is_part_of(lease.held, kept) {
-        None
-    } else {
-        Some(breaks_of_owner(file, to, lease, common_part(lease.held, kept)))
-    }
-}
-
-/// Breaks all bits of the lease but those kept. `to` is the owner of its first connected open.
-pub(crate) fn break_by_owner(
+fn begin(
+    now: Moment,
     file: u32,
     to: Option<Sid>,
     kept: LeaseState,
     lease: &LeaseRow,
 ) -> Option<LeaseBreak>
-    ensures { breaks_if_any file lease.now result ≡ break_by_owner file to kept.0 lease.now lease.now.breaking }
+    ensures { breaks_if_any file lease.now result ≡ break_by_owner now file to kept.0 lease.now None }
+{
+    if is_part_of(lease.held, kept) {
+        None
+    } else {
+        Some(breaks_of_owner(now, file, to, lease, common_part(lease.held, kept)))
+    }
+}
+
+/// Breaks all bits of the lease but those kept. `to` is the owner of its first connected open.
+pub(crate) fn break_by_owner(
+    now: Moment,
+    file: u32,
+    to: Option<Sid>,
+    kept: LeaseState,
+    lease: &LeaseRow,
+) -> Option<LeaseBreak>
+    ensures { breaks_if_any file lease.now result ≡ break_by_owner now file to kept.0 lease.now lease.now.breaking }
 {
     match lease.breaking {
         Some(breaking) => Some(breaks_further(file, to, lease, breaking, kept)),
-        None => begin(file, to, kept, lease),
+        None => begin(now, file, to, kept, lease),
     }
 }

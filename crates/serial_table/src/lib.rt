@@ -14,8 +14,10 @@ mod close;
 mod conclude;
 mod decide;
 mod decision;
+mod delete;
 mod disconnect;
 mod durable;
+mod expire;
 mod global_lock;
 mod grant;
 mod laws;
@@ -45,9 +47,9 @@ pub use change::Change;
 pub use decision::{Caller, Decision};
 pub use laws::{
     alike_tables_step_alike, changes_go_by_key, changes_of_a_file_are_local,
-    concluded_tables_are_settled, histories_go_on, other_files_stay, sessions_rise_by_one,
-    settled_stays_settled, settling_is_local, sharing_is_symmetric, the_living_call,
-    the_living_stay, what_happens_shows,
+    concluded_tables_are_settled, expired_stays_expired, histories_go_on, other_files_stay,
+    sessions_rise_by_one, settled_stays_settled, settling_is_local, sharing_is_symmetric,
+    the_living_call, the_living_stay, what_happens_shows,
 };
 pub use rows::{
     Breaking, EndedRow, HoldRow, LeaseRow, OpenRow, RangeRow, WaiterRow, Watch, WorkerRow,

@@ -109,6 +109,7 @@ impl Lists {
         self.waiters.reserve(more)?;
         self.letters.reserve(more)?;
         self.ended.reserve(more)?;
+        self.pending.reserve(more)?;
         Ok(())
     }
 }

@@ -17,7 +17,7 @@ use crate::rows::{OpenRow, RangeRow, WaiterRow, WorkerRow};
 use crate::table::Table;
 use crate::view;
 use bitflags::Flags;
-use sid_core::{Access, Items, LeaseState, Mode, OutOfMemory, Reply, Sid, Span, Spot};
+use sid_core::{Access, Items, LeaseState, Mode, Moment, OutOfMemory, Reply, Sid, Span, Spot};
 use std::alloc::Global;
 
 const READS_OR_WRITES: Access = Access(0x3);
@@ -51,13 +51,14 @@ fn grant_with(
 
 fn grant_range(
     table: &Table,
+    now: Moment,
     row: &OpenRow,
     span: Span,
     mode: Mode,
 ) -> Result<Decision, OutOfMemory>
-    ensures { IfOk result (λ decision. decision ≡ grant_range row.now span mode (break_others row.now.file (file_view row.now.file (view table.now)) none_of_them row.now.lease)) }
+    ensures { IfOk result (λ decision. decision ≡ grant_range row.now span mode (break_others now row.now.file (file_view row.now.file (view table.now)) none_of_them row.now.lease)) }
 {
-    let breaks = breaks_of_others(table, row.file, LeaseState(0), row.lease)?;
+    let breaks = breaks_of_others(table, now, row.file, LeaseState(0), row.lease)?;
     grant_with(table.ranges.allocator(), row, span, mode, breaks)
 }
 
@@ -166,7 +167,7 @@ fn lock_by(
 {
     match range_in_the_way(table, row, span, mode) {
         Some(first) => Ok(lock_behind(table, caller, span, mode, wait, row, &first)),
-        None => grant_range(table, row, span, mode),
+        None => grant_range(table, caller.moment, row, span, mode),
     }
 }
 

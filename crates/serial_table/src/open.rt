@@ -3,18 +3,25 @@ ghost use Rattle.serial_table.specs.View.{view};
 ghost use Rattle.serial_table.specs.File.{file_view};
 ghost use Rattle.serial_table.specs.Local.{perform_all_in_file};
 ghost use Rattle.serial_table.specs.Break.{both, all_but_write, none_of_them};
-ghost use Rattle.serial_table.specs.Asked.{is_stat, is_elsewhere};
-ghost use Rattle.serial_table.specs.Open.{handle_breaks, other_breaks, open_waiter, wait_for_open, go_on, open_by, open_file};
+ghost use Rattle.serial_table.specs.Asked.{is_stat, deletes_without_right, is_elsewhere};
+ghost use Rattle.serial_table.specs.Open.{handle_breaks, other_breaks, open_waiter, wait_for_open, go_on, open_shared, open_by, open_file};
 ghost use Rattle.serial_table.specs.Alone.{shown, breaks_of};
-ghost use Rattle.serial_table.specs.OpenAt.{wait_or_grant_at, go_further};
+ghost use Rattle.serial_table.specs.OpenAt.{wait_or_grant_at, go_further, open_unleased};
+ghost use Rattle.serial_table.specs.InPlace.{is_lease_of};
+ghost use Rattle.std.specs.List.{list_any};
 
 use crate::alone::rows_alone;
-use crate::asked::{Asked, is_elsewhere, is_stat, leases_in_conflict, meets_refusal};
+use crate::asked::{
+    Asked, deletes_without_right, is_elsewhere, is_stat, leases_in_conflict, meets_conflict,
+    meets_refusal,
+};
 use crate::breaks::{ALL_BUT_HANDLE, ALL_BUT_WRITE, Breaks, break_each, break_others, no_break};
 use crate::decision::{self, Caller, Decision};
-use crate::grant::grant;
+use crate::grant::{grant, grant_unleased};
 use crate::lists::Lists;
-use crate::rows::WaiterRow;
+use crate::perform::is_pending;
+use crate::rows::{LeaseRow, WaiterRow};
+use crate::settle::is_lease_of;
 use crate::table::Table;
 use sid_core::{LeaseState, OutOfMemory, Reply, Sid, Spot};
 
@@ -30,6 +37,7 @@ fn break_handles(rows: &mut Lists, asked: &Asked) -> Result<Breaks, OutOfMemory>
     break_each(
         rows,
         &mut done,
+        asked.moment,
         asked.file,
         ALL_BUT_HANDLE,
         names.as_slice(),
@@ -62,8 +70,21 @@ fn break_other_leases(rows: &mut Lists, done: &mut Breaks, asked: &Asked) -> Res
     if breaks_nothing(asked) {
         Ok(())
     } else {
-        break_others(rows, done, asked.file, kept_beside(asked), asked.lease)
+        break_others(
+            rows,
+            done,
+            asked.moment,
+            asked.file,
+            kept_beside(asked),
+            asked.lease,
+        )
     }
+}
+
+fn has_leases(leases: &[LeaseRow], file: u32) -> bool
+    ensures { result ≡ list_any (is_lease_of file) leases.now }
+{
+    leases.iter().any(|lease| is_lease_of(file, lease))
 }
 
 // ---- the steps
@@ -131,7 +152,7 @@ fn go_on(rows: &mut Lists, caller: &Caller, asked: &Asked) -> Result<Decision, O
 }
 
 fn open_at(rows: &mut Lists, caller: &Caller, asked: &Asked) -> Result<Decision, OutOfMemory>
-    ensures { IfOk result (λ decision. decision ≡ open_by false (shown asked.now.file rows.old) caller.now asked.now) }
+    ensures { IfOk result (λ decision. decision ≡ open_shared (shown asked.now.file rows.old) caller.now asked.now) }
 {
     if meets_refusal(rows, asked) {
         Ok(decision::only_reply(rows.alloc(), Reply::SharingViolation))
@@ -140,13 +161,47 @@ fn open_at(rows: &mut Lists, caller: &Caller, asked: &Asked) -> Result<Decision,
     }
 }
 
+/// Of a file without leases, whose rows are scanned and not copied.
+fn open_unleased(table: &Table, caller: &Caller, asked: &Asked) -> Result<Decision, OutOfMemory>
+    requires none { list_any (is_lease_of asked.now.file) table.now.leases ≡ false }
+    ensures { IfOk result (λ decision. decision ≡ open_unleased (file_view asked.now.file (view table.now)) caller.now asked.now) }
+{
+    if meets_conflict(table, asked) {
+        Ok(decision::only_reply(table.opens.allocator(), Reply::SharingViolation))
+    } else {
+        grant_unleased(table, caller, asked)
+    }
+}
+
+/// At a copy of the file's rows, where its leases are broken one after another.
+fn open_leased(table: &Table, caller: &Caller, asked: &Asked) -> Result<Decision, OutOfMemory>
+    ensures { IfOk result (λ decision. decision ≡ open_shared (file_view asked.now.file (view table.now)) caller.now asked.now) }
+{
+    open_at(&mut rows_alone(table, asked.file)?, caller, asked)
+}
+
+fn open_here(table: &Table, caller: &Caller, asked: &Asked) -> Result<Decision, OutOfMemory>
+    ensures { IfOk result (λ decision. decision ≡ open_shared (file_view asked.now.file (view table.now)) caller.now asked.now) }
+{
+    if has_leases(table.leases.as_slice(), asked.file) {
+        open_leased(table, caller, asked)
+    } else {
+        open_unleased(table, caller, asked)
+    }
+}
+
 fn open_by(table: &Table, caller: &Caller, asked: &Asked) -> Result<Decision, OutOfMemory>
     ensures { IfOk result (λ decision. decision ≡ open_by (is_elsewhere (view table.now) asked.now) (file_view asked.now.file (view table.now)) caller.now asked.now) }
 {
-    if is_elsewhere(table, asked) {
-        Ok(decision::only_reply(table.leases.allocator(), Reply::InvalidParameter))
+    let alloc = table.opens.allocator();
+    if deletes_without_right(asked) {
+        Ok(decision::only_reply(alloc, Reply::AccessDenied))
+    } else if is_elsewhere(table, asked) {
+        Ok(decision::only_reply(alloc, Reply::InvalidParameter))
+    } else if is_pending(table.pending.as_slice(), asked.file) {
+        Ok(decision::only_reply(alloc, Reply::DeletePending))
     } else {
-        open_at(&mut rows_alone(table, asked.file)?, caller, asked)
+        open_here(table, caller, asked)
     }
 }
 

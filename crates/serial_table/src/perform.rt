@@ -1,10 +1,10 @@
 ghost use Rattle.std.specs.Prelude.{◌≡◌, ℕ, IsTrue, ◌+◌, ◌≤◌, ◌<◌, ◌^◌, ◌&&◌, ◌||◌, not, ◌∷◌, ◌++◌, [], filter, map, vec_len, vec_capacity};
 ghost use Rattle.std.specs.List.{list_any, position};
 ghost use Rattle.sid_core.specs.Ids.{same_id, same_sid};
-ghost use Rattle.serial_table.specs.View.{is_of_handle, is_of_file, is_to};
+ghost use Rattle.serial_table.specs.View.{is_of_handle, is_of_file, is_to, names_file};
 ghost use Rattle.serial_table.specs.Lists.{drop_first};
 ghost use Rattle.serial_table.specs.InPlace.{table_of, HasRoom, KeepsRoom, IsEnough, is_made, is_of_files, is_elsewhere};
-ghost use Rattle.serial_table.specs.Change.{perform, is_open, is_other_open, is_other_range, is_other_wait, is_lease, set_lease, new_owner, same_mode, same_range, is_hold, set_hold, outlives, end_session, begin_session};
+ghost use Rattle.serial_table.specs.Change.{perform, is_open, is_other_open, is_other_range, is_other_wait, is_lease, set_lease, new_owner, same_mode, same_range, is_hold, set_hold, with_pending, outlives, end_session, begin_session};
 
 use crate::change::Change;
 use crate::lists::{Lists, Scope};
@@ -206,6 +206,32 @@ fn drop_range(ranges: &mut Vec<RangeRow>, range: &RangeRow)
     if let Some(place) = place_of_range(ranges.as_slice(), range) {
         ranges.remove(place);
     }
+}
+
+pub(crate) fn is_pending(files: &[u32], file: u32) -> bool
+    ensures { result ≡ list_any (names_file file) files.now }
+{
+    files.iter().any(|pending| *pending == file)
+}
+
+#[tactic(auto, unfolding(crate::specs::Change::with_pending))]
+fn add_pending(files: &mut Vec<u32>, file: u32)
+    requires room { vec_len files.old + 1 ≤ vec_capacity files.old }
+    ensures items { files.new.items ≡ with_pending file files.old.items }
+    ensures len { vec_len files.new ≤ vec_len files.old + 1 }
+    ensures room { vec_capacity files.new ≡ vec_capacity files.old }
+{
+    if !is_pending(files.as_slice(), file) {
+        files.push_reserved(file);
+    }
+}
+
+fn drop_pending(files: &mut Vec<u32>, file: u32)
+    ensures items { files.new.items ≡ filter (λ pending. not (names_file file pending)) files.old.items }
+    ensures len { vec_len files.new ≤ vec_len files.old }
+    ensures room { vec_capacity files.new ≡ vec_capacity files.old }
+{
+    files.retain(|pending| *pending != file);
 }
 
 fn set_holds(holds: &mut Vec<HoldRow>, key: u64, owner: Sid, mode: Mode)
@@ -411,6 +437,8 @@ impl Lists {
             }
             Change::AddRange(range) => self.ranges.push_reserved(range),
             Change::DropRange(range) => drop_range(&mut self.ranges, &range),
+            Change::AddPending { file } => add_pending(&mut self.pending, file),
+            Change::DropPending { file } => drop_pending(&mut self.pending, file),
             _ => unreachable!(),
         }
     }
@@ -452,7 +480,9 @@ impl Lists {
             | Change::SetLease { .. }
             | Change::Acknowledge { .. }
             | Change::AddRange(_)
-            | Change::DropRange(_) => self.perform_on_files(change),
+            | Change::DropRange(_)
+            | Change::AddPending { .. }
+            | Change::DropPending { .. } => self.perform_on_files(change),
             _ => self.perform_elsewhere(change),
         }
     }

@@ -18,7 +18,7 @@ use crate::rows::{OpenRow, RangeRow};
 use crate::table::Table;
 use crate::view;
 use bitflags::Flags;
-use sid_core::{Access, LeaseState, OutOfMemory, Reply, Span};
+use sid_core::{Access, LeaseState, Moment, OutOfMemory, Reply, Span};
 
 const READS: Access = Access(0x21);
 
@@ -110,28 +110,38 @@ fn some_forbids_write(table: &Table, span: Span, row: &OpenRow) -> bool
         .any(|range| forbids_write(row, span, range))
 }
 
-fn written(table: &Table, row: &OpenRow) -> Result<Decision, OutOfMemory>
-    ensures { IfOk result (λ decision. decision ≡ written row.now (break_others row.now.file (file_view row.now.file (view table.now)) none_of_them row.now.lease)) }
+fn written(table: &Table, now: Moment, row: &OpenRow) -> Result<Decision, OutOfMemory>
+    ensures { IfOk result (λ decision. decision ≡ written row.now (break_others now row.now.file (file_view row.now.file (view table.now)) none_of_them row.now.lease)) }
 {
-    breaks_of_others(table, row.file, LeaseState(0), row.lease)?.decided(row.file, Reply::Done)
+    breaks_of_others(table, now, row.file, LeaseState(0), row.lease)?.decided(row.file, Reply::Done)
 }
 
-fn write_among(table: &Table, span: Span, row: &OpenRow) -> Result<Decision, OutOfMemory>
-    ensures { IfOk result (λ decision. decision ≡ (if list_any (forbids_write row.now span) (filter (is_range_of row.now.file) table.now.ranges) then only_reply FileLockConflict else written row.now (break_others row.now.file (file_view row.now.file (view table.now)) none_of_them row.now.lease))) }
+fn write_among(
+    table: &Table,
+    now: Moment,
+    span: Span,
+    row: &OpenRow,
+) -> Result<Decision, OutOfMemory>
+    ensures { IfOk result (λ decision. decision ≡ (if list_any (forbids_write row.now span) (filter (is_range_of row.now.file) table.now.ranges) then only_reply FileLockConflict else written row.now (break_others now row.now.file (file_view row.now.file (view table.now)) none_of_them row.now.lease))) }
 {
     if some_forbids_write(table, span, row) {
         Ok(decision::only_reply(table.ranges.allocator(), Reply::FileLockConflict))
     } else {
-        written(table, row)
+        written(table, now, row)
     }
 }
 
-fn write_file(table: &Table, span: Span, row: &OpenRow) -> Result<Decision, OutOfMemory>
-    ensures { IfOk result (λ decision. decision ≡ write_file (file_view row.now.file (view table.now)) span row.now) }
+fn write_file(
+    table: &Table,
+    now: Moment,
+    span: Span,
+    row: &OpenRow,
+) -> Result<Decision, OutOfMemory>
+    ensures { IfOk result (λ decision. decision ≡ write_file now (file_view row.now.file (view table.now)) span row.now) }
 {
     match reply_at_once(row, WRITES, span) {
         Some(reply) => Ok(decision::only_reply(table.ranges.allocator(), reply)),
-        None => write_among(table, span, row),
+        None => write_among(table, now, span, row),
     }
 }
 
@@ -145,7 +155,7 @@ pub(crate) fn write(
     ensures { IfOk result (λ decision. decision ≡ write (view table.now) caller.now handle span) }
 {
     match open_of_handle(table, caller.sid, handle) {
-        Some(row) => write_file(table, span, &row),
+        Some(row) => write_file(table, caller.moment, span, &row),
         None => Ok(decision::only_reply(table.opens.allocator(), Reply::FileClosed)),
     }
 }

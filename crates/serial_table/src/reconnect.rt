@@ -18,7 +18,7 @@ use crate::view;
 use sid_core::{Items, LeaseName, OpenId, OutOfMemory, Reply, Setup, WorkerInfo};
 use std::alloc::Global;
 
-fn open_of_id(table: &Table, id: OpenId) -> Option<OpenRow>
+pub(crate) fn open_of_id(table: &Table, id: OpenId) -> Option<OpenRow>
     ensures { result ≡ find (has_id id) table.now.opens }
 {
     table

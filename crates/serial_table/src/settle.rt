@@ -3,7 +3,7 @@ ghost use Rattle.std.specs.List.{list_any};
 ghost use Rattle.sid_core.specs.Values.{has};
 ghost use Rattle.serial_table.specs.View.{is_of_file, has_name};
 ghost use Rattle.serial_table.specs.Settle.{settle_where};
-ghost use Rattle.serial_table.specs.InPlace.{table_of, in_scope, lives_by, KeepsRoom, is_lease_of, lacks_lease, goes, goes_with, range_goes, is_under_lease, lease_goes, break_ends, lease_ends_break, without_what_goes};
+ghost use Rattle.serial_table.specs.InPlace.{table_of, in_scope, lives_by, KeepsRoom, is_lease_of, lacks_lease, goes, goes_with, range_goes, is_under_lease, lease_goes, pending_goes, break_ends, lease_ends_break, without_what_goes};
 
 use crate::lists::{Lists, Scope};
 use crate::rows::{Breaking, LeaseRow, OpenRow, RangeRow, WorkerRow};
@@ -123,10 +123,42 @@ fn lease_goes(scope: Scope, opens: &[OpenRow], lease: &LeaseRow) -> bool
     scope.has(lease.file) && !has_open(opens, lease)
 }
 
-fn some_go(scope: Scope, opens: &[OpenRow], leases: &[LeaseRow], workers: &[WorkerRow]) -> bool
+fn is_opened(opens: &[OpenRow], file: u32) -> bool
+    ensures { result ≡ list_any (is_of_file file) opens.now }
+{
+    opens.iter().any(|row| view::is_of_file(file, row))
+}
+
+fn pending_goes(scope: Scope, opens: &[OpenRow], file: u32) -> bool
+    ensures { result ≡ pending_goes (in_scope scope) opens.now file }
+{
+    scope.has(file) && !is_opened(opens, file)
+}
+
+fn some_lease_lacks(scope: Scope, leases: &[LeaseRow]) -> bool
+    ensures { result ≡ list_any (λ lease. in_scope scope lease.file && not (has lease.held.0 2)) leases.now }
+{
+    leases
+        .iter()
+        .any(|lease| scope.has(lease.file) && lacks_handle(lease))
+}
+
+fn some_open_goes(
+    scope: Scope,
+    opens: &[OpenRow],
+    leases: &[LeaseRow],
+    workers: &[WorkerRow],
+) -> bool
     ensures { result ≡ list_any (goes (in_scope scope) (lives_by workers.now) leases.now) opens.now }
 {
     opens.iter().any(|row| goes(scope, leases, workers, row))
+}
+
+/// The opens are looked through only where a lease of the scope lacks HANDLE.
+fn some_go(scope: Scope, opens: &[OpenRow], leases: &[LeaseRow], workers: &[WorkerRow]) -> bool
+    ensures { result ≡ list_any (goes (in_scope scope) (lives_by workers.now) leases.now) opens.now }
+{
+    some_lease_lacks(scope, leases) && some_open_goes(scope, opens, leases, workers)
 }
 
 // ---- in place
@@ -206,6 +238,14 @@ fn drop_leases(scope: Scope, opens: &[OpenRow], leases: &mut Vec<LeaseRow>)
     leases.retain(|lease| !lease_goes(scope, opens, lease));
 }
 
+fn drop_pending(scope: Scope, opens: &[OpenRow], pending: &mut Vec<u32>)
+    ensures items { pending.new.items ≡ filter (λ file. not (pending_goes (in_scope scope) opens.now file)) pending.old.items }
+    ensures len { vec_len pending.new ≤ vec_len pending.old }
+    ensures room { vec_capacity pending.new ≡ vec_capacity pending.old }
+{
+    pending.retain(|file| !pending_goes(scope, opens, *file));
+}
+
 impl Lists {
     /// Takes out the opens that go, with their ranges. The leases are settled.
     fn drop_what_goes(&mut self, scope: Scope)
@@ -248,5 +288,6 @@ impl Lists {
         );
         self.drop_what_goes(scope);
         drop_leases(scope, self.opens.as_slice(), &mut self.leases);
+        drop_pending(scope, self.opens.as_slice(), &mut self.pending);
     }
 }

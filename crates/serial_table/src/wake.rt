@@ -63,7 +63,20 @@ fn will_go(lists: &Lists, row: &OpenRow) -> bool
     will_lose(lists, row.file, row.lease) && !view::lives(lists.workers.as_slice(), row.owner)
 }
 
-fn some_open_will_go(lists: &Lists, file: u32) -> bool
+fn some_lease_will_lack(lists: &Lists, file: u32) -> bool
+    ensures { result ≡ list_any (lacks_once_settled lists.now.opens.items (lives_by lists.now.workers.items)) (filter (is_lease_of file) lists.now.leases.items) }
+{
+    let opens = lists.opens.as_slice();
+    let workers = lists.workers.as_slice();
+    lists
+        .leases
+        .as_slice()
+        .iter()
+        .filter(|lease| is_lease_of(file, lease))
+        .any(|lease| will_lack(opens, workers, lease))
+}
+
+fn some_of_these_will_go(lists: &Lists, file: u32) -> bool
     ensures { result ≡ list_any (goes_once_settled (table_of lists.now)) (filter (is_of_file file) lists.now.opens.items) }
 {
     lists
@@ -72,6 +85,13 @@ fn some_open_will_go(lists: &Lists, file: u32) -> bool
         .iter()
         .filter(|row| view::is_of_file(file, row))
         .any(|row| will_go(lists, row))
+}
+
+/// The opens are looked through only where a lease of the file will lack HANDLE.
+fn some_open_will_go(lists: &Lists, file: u32) -> bool
+    ensures { result ≡ list_any (goes_once_settled (table_of lists.now)) (filter (is_of_file file) lists.now.opens.items) }
+{
+    some_lease_will_lack(lists, file) && some_of_these_will_go(lists, file)
 }
 
 fn will_go_with(lists: &Lists, range: &RangeRow, row: &OpenRow) -> bool

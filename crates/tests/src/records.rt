@@ -1,9 +1,10 @@
 use record_codec::{
     GLockRec, Hold, LeaseRec, LeaseRef, MailRec, OpenRec, Packed, RangeItem, RangeRec, RegisterRec,
-    ShareEntry, ShareEntryRow, ShareRec, Token, Unpack, WatchRec, list_at, packed_and_unpacked,
+    ShareEntry, ShareEntryRow, ShareRec, SmallText, Token, UnmarkedEntryRow, Unpack, WatchRec,
+    list_at, packed_and_unpacked,
 };
 use sid_core::{
-    Access, Items, LeaseName, LeaseState, Letter, Mode, OpenId, OutOfMemory, Share, Sid, Spot, Text,
+    Access, Items, LeaseName, LeaseState, Letter, Mode, OpenId, OutOfMemory, Share, Sid, Spot,
 };
 use std::alloc::Global;
 use std::process::Abort;
@@ -17,8 +18,31 @@ fn is_refused<T: Packed, R: Abort>(rt: &R, alloc: Global, bytes: &[u8], fault: U
     }
 }
 
+// Cut at any length the bytes are short, one byte more is trailing, and with the byte at that place changed to that value
+// the fault is that.
+fn has_faults<T: Packed, R: Abort>(
+    rt: &R,
+    alloc: Global,
+    bytes: &[u8],
+    changes: &[(usize, u8, Unpack)],
+) -> Result<(), Unpack> {
+    for len in 0..bytes.len() {
+        is_refused::<T, R>(rt, alloc, &bytes[..len], Unpack::Short);
+    }
+    let mut longer = Vec::from_slice(alloc, bytes)?;
+    longer.push(0)?;
+    is_refused::<T, R>(rt, alloc, longer.as_slice(), Unpack::Trailing);
+    for (place, byte, fault) in changes {
+        let mut changed = Vec::from_slice(alloc, bytes)?;
+        assert!(rt; *place < changed.len());
+        changed[*place] = *byte;
+        is_refused::<T, R>(rt, alloc, changed.as_slice(), *fault);
+    }
+    Ok(())
+}
+
 // The bytes are a record and its spelling, packed with one allocation, also of the record that is packed and unpacked
-// once more; cut at any length they are short, one byte more is trailing, and with the byte at that place changed to that value the fault is that.
+// once more, and they have those faults.
 fn refuses<T: Packed, R: Abort>(
     rt: &R,
     alloc: Global,
@@ -34,19 +58,27 @@ fn refuses<T: Packed, R: Abort>(
     let mut block = Vec::with_capacity(alloc, again.packed_size())?;
     again.pack_onto(&mut block);
     assert_eq!(rt; block.as_slice(), bytes);
-    for len in 0..bytes.len() {
-        is_refused::<T, R>(rt, alloc, &bytes[..len], Unpack::Short);
-    }
-    let mut longer = Vec::from_slice(alloc, bytes)?;
-    longer.push(0)?;
-    is_refused::<T, R>(rt, alloc, longer.as_slice(), Unpack::Trailing);
-    for (place, byte, fault) in changes {
-        let mut changed = Vec::from_slice(alloc, bytes)?;
-        assert!(rt; *place < changed.len());
-        changed[*place] = *byte;
-        is_refused::<T, R>(rt, alloc, changed.as_slice(), *fault);
-    }
-    Ok(())
+    has_faults::<T, R>(rt, alloc, bytes, changes)
+}
+
+// The bytes are a share mode record and its spelling in version 1, packed with one allocation, also of the record that
+// is packed in version 2 and unpacked again, and they have those faults.
+fn refuses_old<R: Abort>(
+    rt: &R,
+    alloc: Global,
+    bytes: &[u8],
+    changes: &[(usize, u8, Unpack)],
+) -> Result<(), Unpack> {
+    let value = ShareRec::unpack(alloc, bytes)?;
+    let again = packed_and_unpacked(alloc, &value)?;
+    assert!(rt; value.has_no_mark() && again.has_no_mark());
+    let packed = value.pack_old(alloc)?;
+    assert_eq!(rt; packed.as_slice(), bytes);
+    assert_eq!(rt; packed.capacity(), bytes.len());
+    let mut block = Vec::with_capacity(alloc, again.packed_old_size())?;
+    again.pack_old_onto(&mut block);
+    assert_eq!(rt; block.as_slice(), bytes);
+    has_faults::<ShareRec, R>(rt, alloc, bytes, changes)
 }
 
 const OPEN: [u8; 18] = [79, 80, 69, 78, 1, 0, 101, 0, 0, 0, 7, 0, 0, 0, 2, 0, 0, 0];
@@ -79,23 +111,27 @@ const GLOCK_FAULTS: [(usize, u8, Unpack); 3] = [
     (44, 2, Unpack::BadField(11)),
 ];
 
-const SHARE: [u8; 145] = [
+// In version 1, without fields for the pending flag and the marks.
+const OLD_SHARE: [u8; 145] = [
     83, 72, 65, 82, 1, 0, 8, 0, 0, 0, 2, 0, 47, 100, 1, 0, 97, 2, 0, 0, 0, 101, 0, 0, 0, 2, 0, 0,
     0, 102, 0, 0, 0, 3, 0, 0, 0, 4, 0, 0, 0, 3, 0, 0, 0, 7, 0, 0, 0, 0, 0, 0, 0, 0, 0, 0, 0, 0, 0,
     0, 0, 0, 0, 0, 0, 0, 0, 100, 0, 0, 0, 0, 0, 0, 0, 103, 0, 0, 0, 5, 0, 0, 0, 104, 0, 0, 0, 6, 0,
-    0, 0, 9, 0, 0, 0, 1, 0, 0, 0, 5, 1, 11, 0, 0, 0, 0, 0, 0, 0, 12, 0, 0, 0, 0, 0, 0, 0, 60, 0, 0,
+    0, 0, 9, 0, 0, 0, 1, 0, 1, 0, 5, 1, 11, 0, 0, 0, 0, 0, 0, 0, 12, 0, 0, 0, 0, 0, 0, 0, 60, 0, 0,
     0, 200, 0, 0, 0, 0, 0, 0, 0, 1, 0, 0, 0, 105, 0, 0, 0, 10, 0, 0, 0, 13, 0, 0, 0,
 ];
 
-const SHARE_FAULTS: [(usize, u8, Unpack); 20] = [
+const OLD_SHARE_FAULTS: [(usize, u8, Unpack); 23] = [
     (0, 115, Unpack::Magic),
-    (4, 2, Unpack::Version),
+    (4, 3, Unpack::Version),
+    (4, 0, Unpack::Version),
+    (5, 1, Unpack::Version),
     (10, 0, Unpack::BadField(4)),
     (11, 1, Unpack::BadField(4)),
     (10, 255, Unpack::Short),
     (12, 32, Unpack::BadField(4)),
     (13, 127, Unpack::BadField(4)),
     (14, 0, Unpack::BadField(5)),
+    (15, 1, Unpack::BadField(5)),
     (16, 32, Unpack::BadField(5)),
     (41, 0, Unpack::BadField(12)),
     (42, 2, Unpack::BadField(12)),
@@ -105,19 +141,64 @@ const SHARE_FAULTS: [(usize, u8, Unpack); 20] = [
     (54, 1, Unpack::BadField(15)),
     (55, 1, Unpack::BadField(16)),
     (63, 1, Unpack::BadField(17)),
-    (74, 1, Unpack::BadField(18)),
+    (72, 1, Unpack::BadField(18)),
     (100, 0, Unpack::BadField(15)),
     (125, 3, Unpack::BadField(18)),
 ];
 
-const LEASE: [u8; 38] = [
-    76, 69, 65, 83, 1, 0, 4, 0, 0, 0, 7, 1, 3, 1, 1, 0, 0, 0, 101, 0, 0, 0, 5, 0, 0, 0, 102, 0, 0,
-    0, 2, 0, 0, 0, 60, 0, 0, 0,
+// In version 2: the file is pending, and the second open is marked.
+const SHARE: [u8; 148] = [
+    83, 72, 65, 82, 2, 0, 8, 0, 0, 0, 2, 0, 47, 100, 1, 0, 97, 1, 2, 0, 0, 0, 101, 0, 0, 0, 2, 0,
+    0, 0, 102, 0, 0, 0, 3, 0, 0, 0, 4, 0, 0, 0, 3, 0, 0, 0, 7, 0, 0, 0, 0, 0, 0, 0, 0, 0, 0, 0, 0,
+    0, 0, 0, 0, 0, 0, 0, 0, 0, 100, 0, 0, 0, 0, 0, 0, 0, 0, 103, 0, 0, 0, 5, 0, 0, 0, 104, 0, 0, 0,
+    6, 0, 0, 0, 9, 0, 0, 0, 1, 0, 1, 0, 5, 1, 11, 0, 0, 0, 0, 0, 0, 0, 12, 0, 0, 0, 0, 0, 0, 0, 60,
+    0, 0, 0, 200, 0, 0, 0, 0, 0, 0, 0, 1, 1, 0, 0, 0, 105, 0, 0, 0, 10, 0, 0, 0, 13, 0, 0, 0,
 ];
 
-const LEASE_FAULTS: [(usize, u8, Unpack); 12] = [
+const SHARE_FAULTS: [(usize, u8, Unpack); 30] = [
+    (0, 115, Unpack::Magic),
+    (3, 83, Unpack::Magic),
+    (4, 3, Unpack::Version),
+    (4, 0, Unpack::Version),
+    (5, 1, Unpack::Version),
+    (10, 0, Unpack::BadField(4)),
+    (11, 1, Unpack::BadField(4)),
+    (10, 255, Unpack::Short),
+    (12, 32, Unpack::BadField(4)),
+    (13, 127, Unpack::BadField(4)),
+    (14, 0, Unpack::BadField(5)),
+    (15, 1, Unpack::BadField(5)),
+    (16, 32, Unpack::BadField(5)),
+    (16, 127, Unpack::BadField(5)),
+    (17, 2, Unpack::BadField(6)),
+    (42, 0, Unpack::BadField(13)),
+    (43, 2, Unpack::BadField(13)),
+    (46, 8, Unpack::BadField(14)),
+    (47, 2, Unpack::BadField(15)),
+    (48, 1, Unpack::BadField(16)),
+    (55, 1, Unpack::BadField(16)),
+    (56, 1, Unpack::BadField(17)),
+    (64, 1, Unpack::BadField(18)),
+    (73, 1, Unpack::BadField(19)),
+    (76, 1, Unpack::BadField(20)),
+    (76, 2, Unpack::BadField(20)),
+    (99, 0, Unpack::BadField(20)),
+    (102, 0, Unpack::BadField(16)),
+    (127, 3, Unpack::BadField(19)),
+    (131, 2, Unpack::BadField(20)),
+];
+
+// Broken at moment 0.
+const LEASE: [u8; 46] = [
+    76, 69, 65, 83, 2, 0, 4, 0, 0, 0, 7, 1, 3, 1, 35, 0, 0, 0, 0, 0, 0, 0, 1, 0, 0, 0, 101, 0, 0,
+    0, 5, 0, 0, 0, 102, 0, 0, 0, 2, 0, 0, 0, 60, 0, 0, 0,
+];
+
+const LEASE_FAULTS: [(usize, u8, Unpack); 18] = [
     (1, 72, Unpack::Magic),
-    (4, 2, Unpack::Version),
+    (4, 1, Unpack::Version),
+    (4, 3, Unpack::Version),
+    (5, 1, Unpack::Version),
     (10, 2, Unpack::BadField(4)),
     (10, 8, Unpack::BadField(4)),
     (10, 3, Unpack::BadField(6)),
@@ -128,6 +209,35 @@ const LEASE_FAULTS: [(usize, u8, Unpack); 12] = [
     (12, 2, Unpack::BadField(6)),
     (13, 5, Unpack::BadField(7)),
     (13, 2, Unpack::BadField(7)),
+    (14, 34, Unpack::BadField(8)),
+    (14, 0, Unpack::BadField(8)),
+    (18, 3, Unpack::BadField(8)),
+    (21, 1, Unpack::BadField(8)),
+];
+
+// Broken at the last moment.
+const LAST_LEASE: [u8; 46] = [
+    76, 69, 65, 83, 2, 0, 4, 0, 0, 0, 7, 1, 3, 1, 34, 228, 11, 84, 2, 0, 0, 0, 1, 0, 0, 0, 101, 0,
+    0, 0, 5, 0, 0, 0, 102, 0, 0, 0, 2, 0, 0, 0, 60, 0, 0, 0,
+];
+
+const LAST_LEASE_FAULTS: [(usize, u8, Unpack); 2] = [
+    (14, 35, Unpack::BadField(8)),
+    (18, 3, Unpack::BadField(8)),
+];
+
+// Without a break.
+const UNBROKEN_LEASE: [u8; 46] = [
+    76, 69, 65, 83, 2, 0, 4, 0, 0, 0, 7, 0, 0, 0, 0, 0, 0, 0, 0, 0, 0, 0, 1, 0, 0, 0, 101, 0, 0, 0,
+    5, 0, 0, 0, 102, 0, 0, 0, 2, 0, 0, 0, 60, 0, 0, 0,
+];
+
+const UNBROKEN_LEASE_FAULTS: [(usize, u8, Unpack); 5] = [
+    (11, 1, Unpack::BadField(8)),
+    (12, 1, Unpack::BadField(6)),
+    (13, 1, Unpack::BadField(7)),
+    (14, 35, Unpack::BadField(8)),
+    (21, 1, Unpack::BadField(8)),
 ];
 
 const REGISTER: [u8; 51] = [
@@ -203,7 +313,10 @@ fn each_record_and_its_faults(rt: HostRuntime) -> Result<(), Fail> {
     refuses::<GLockRec, _>(&rt, rt.alloc(), &LOCK, &LOCK_FAULTS)?;
     refuses::<GLockRec, _>(&rt, rt.alloc(), &GLOCK, &GLOCK_FAULTS)?;
     refuses::<ShareRec, _>(&rt, rt.alloc(), &SHARE, &SHARE_FAULTS)?;
+    refuses_old(&rt, rt.alloc(), &OLD_SHARE, &OLD_SHARE_FAULTS)?;
     refuses::<LeaseRec, _>(&rt, rt.alloc(), &LEASE, &LEASE_FAULTS)?;
+    refuses::<LeaseRec, _>(&rt, rt.alloc(), &LAST_LEASE, &LAST_LEASE_FAULTS)?;
+    refuses::<LeaseRec, _>(&rt, rt.alloc(), &UNBROKEN_LEASE, &UNBROKEN_LEASE_FAULTS)?;
     refuses::<RegisterRec, _>(&rt, rt.alloc(), &REGISTER, &REGISTER_FAULTS)?;
     refuses::<RangeRec, _>(&rt, rt.alloc(), &RANGES, &RANGES_FAULTS)?;
     refuses::<MailRec, _>(&rt, rt.alloc(), &MAIL, &MAIL_FAULTS)?;
@@ -260,10 +373,8 @@ fn glock_by_hand(alloc: Global) -> Result<Vec<u8>, OutOfMemory> {
 }
 
 fn shares_by_hand(alloc: Global) -> Result<Vec<u8>, OutOfMemory> {
-    let mut path = Text::new(alloc);
-    path.push(b"/d")?;
-    let mut name = Text::new(alloc);
-    name.push(b"a")?;
+    let path = SmallText::from_slice(alloc, b"/d")?;
+    let name = SmallText::from_slice(alloc, b"a")?;
     let mut entries = Items::new(alloc);
     entries.push(ShareEntry {
         id: OpenId { pid: 101, call: 2 },
@@ -277,6 +388,7 @@ fn shares_by_hand(alloc: Global) -> Result<Vec<u8>, OutOfMemory> {
         lease: None,
         durable: 0,
         opened: 100,
+        marked: false,
     })?;
     entries.push(ShareEntry {
         id: OpenId { pid: 103, call: 5 },
@@ -285,11 +397,12 @@ fn shares_by_hand(alloc: Global) -> Result<Vec<u8>, OutOfMemory> {
             session: 6,
         },
         handle: 9,
-        access: Access(1),
+        access: Access(0x10001),
         share: Share(5),
         lease: Some(LeaseName { guid: 11, key: 12 }),
         durable: 60,
         opened: 200,
+        marked: true,
     })?;
     let mut watchers = Items::new(alloc);
     watchers.push(WatchRec {
@@ -304,6 +417,7 @@ fn shares_by_hand(alloc: Global) -> Result<Vec<u8>, OutOfMemory> {
         file: 8,
         path,
         name,
+        pending: true,
         entries,
         watchers,
     };
@@ -326,6 +440,7 @@ fn lease_by_hand(alloc: Global) -> Result<Vec<u8>, OutOfMemory> {
         breaking: true,
         asked: LeaseState(3),
         needed: LeaseState(1),
+        until: 35,
         refs,
     };
     record.pack(alloc)
@@ -425,20 +540,149 @@ fn each_record_has_its_bytes(rt: HostRuntime) -> Result<(), Fail> {
     Ok(())
 }
 
-// Each text and each list of a record has room for exactly its items, so each was one allocation.
+// The open of pid 101 at moment 0, in version 1.
+const ONE_OPEN: [u8; 90] = [
+    83, 72, 65, 82, 1, 0, 1, 0, 0, 0, 9, 0, 47, 115, 114, 118, 47, 100, 97, 116, 97, 5, 0, 97, 46,
+    116, 120, 116, 1, 0, 0, 0, 101, 0, 0, 0, 1, 0, 0, 0, 101, 0, 0, 0, 1, 0, 0, 0, 1, 0, 0, 0, 1,
+    0, 0, 0, 7, 0, 0, 0, 0, 0, 0, 0, 0, 0, 0, 0, 0, 0, 0, 0, 0, 0, 0, 0, 0, 0, 0, 0, 0, 0, 0, 0, 0,
+    0, 0, 0, 0, 0,
+];
+
+// That open, and the one of pid 102 at moment 1, in version 2.
+const TWO_OPENS: [u8; 147] = [
+    83, 72, 65, 82, 2, 0, 1, 0, 0, 0, 9, 0, 47, 115, 114, 118, 47, 100, 97, 116, 97, 5, 0, 97, 46,
+    116, 120, 116, 0, 2, 0, 0, 0, 101, 0, 0, 0, 1, 0, 0, 0, 101, 0, 0, 0, 1, 0, 0, 0, 1, 0, 0, 0,
+    1, 0, 0, 0, 7, 0, 0, 0, 0, 0, 0, 0, 0, 0, 0, 0, 0, 0, 0, 0, 0, 0, 0, 0, 0, 0, 0, 0, 0, 0, 0, 0,
+    0, 0, 0, 102, 0, 0, 0, 1, 0, 0, 0, 102, 0, 0, 0, 1, 0, 0, 0, 1, 0, 0, 0, 1, 0, 0, 0, 7, 0, 0,
+    0, 0, 0, 0, 0, 0, 0, 0, 0, 0, 0, 0, 0, 0, 0, 0, 0, 0, 0, 1, 0, 0, 0, 0, 0, 0, 0, 0, 0, 0, 0, 0,
+];
+
+fn one_open(alloc: Global) -> Result<Vec<u8>, OutOfMemory> {
+    let path = SmallText::from_slice(alloc, b"/srv/data")?;
+    let name = SmallText::from_slice(alloc, b"a.txt")?;
+    let mut entries = Items::new(alloc);
+    entries.push(ShareEntry {
+        id: OpenId { pid: 101, call: 1 },
+        owner: Sid {
+            pid: 101,
+            session: 1,
+        },
+        handle: 1,
+        access: Access(1),
+        share: Share(7),
+        lease: None,
+        durable: 0,
+        opened: 0,
+        marked: false,
+    })?;
+    let watchers = Items::new(alloc);
+    let record = ShareRec {
+        file: 1,
+        path,
+        name,
+        pending: false,
+        entries,
+        watchers,
+    };
+    record.pack_old(alloc)
+}
+
+fn two_opens(alloc: Global) -> Result<Vec<u8>, OutOfMemory> {
+    let path = SmallText::from_slice(alloc, b"/srv/data")?;
+    let name = SmallText::from_slice(alloc, b"a.txt")?;
+    let mut entries = Items::new(alloc);
+    entries.push(ShareEntry {
+        id: OpenId { pid: 101, call: 1 },
+        owner: Sid {
+            pid: 101,
+            session: 1,
+        },
+        handle: 1,
+        access: Access(1),
+        share: Share(7),
+        lease: None,
+        durable: 0,
+        opened: 0,
+        marked: false,
+    })?;
+    entries.push(ShareEntry {
+        id: OpenId { pid: 102, call: 1 },
+        owner: Sid {
+            pid: 102,
+            session: 1,
+        },
+        handle: 1,
+        access: Access(1),
+        share: Share(7),
+        lease: None,
+        durable: 0,
+        opened: 1,
+        marked: false,
+    })?;
+    let watchers = Items::new(alloc);
+    let record = ShareRec {
+        file: 1,
+        path,
+        name,
+        pending: false,
+        entries,
+        watchers,
+    };
+    record.pack(alloc)
+}
+
+// One open of `/srv/data`, `a.txt` has 90 bytes in version 1, and two have 147 in version 2.
+#[test]
+fn both_versions_have_their_bytes(rt: HostRuntime) -> Result<(), Fail> {
+    let alloc = rt.alloc();
+    assert_eq!(rt; one_open(alloc)?.as_slice(), ONE_OPEN.as_slice());
+    assert_eq!(rt; two_opens(alloc)?.as_slice(), TWO_OPENS.as_slice());
+    Ok(())
+}
+
+// The same record with a path of 31 bytes.
+fn with_long_path(alloc: Global) -> Result<Vec<u8>, OutOfMemory> {
+    let mut bytes = Vec::from_slice(alloc, &SHARE[..10])?;
+    bytes.extend_from_slice(b"\x1f\x00/srv/data/departments/marketing")?;
+    bytes.extend_from_slice(&SHARE[14..])?;
+    Ok(bytes)
+}
+
+// Each long text and each list of a record has room for exactly its items, so each was one allocation.
 #[test]
 fn parts_have_exact_room(rt: HostRuntime) -> Result<(), Fail> {
+    let alloc = rt.alloc();
+    let bytes = with_long_path(alloc)?;
+    let record = ShareRec::unpack(alloc, bytes.as_slice())?;
+    assert_eq!(rt; record.pack(alloc)?.as_slice(), bytes.as_slice());
     let ShareRec {
         path,
         name,
         entries,
         watchers,
-        file: _,
-    } = ShareRec::unpack(rt.alloc(), &SHARE)?;
-    assert_eq!(rt; path.into_vec().capacity(), 2);
-    assert_eq!(rt; name.into_vec().capacity(), 1);
+        ..
+    } = record;
+    assert_eq!(rt; path.into_vec(alloc)?.capacity(), 31);
+    assert_eq!(rt; name.into_vec(alloc)?.capacity(), 1);
     assert_eq!(rt; entries.into_vec().capacity(), 2);
     assert_eq!(rt; watchers.into_vec().capacity(), 1);
+    Ok(())
+}
+
+// A text has its bytes, whether they stand in it or take memory.
+#[test]
+fn texts_have_their_bytes(rt: HostRuntime) -> Result<(), Fail> {
+    let alloc = rt.alloc();
+    let letters = b"abcdefghijklmnopqrstuvwxyzABCDEFGHIJ";
+    for len in 0..=letters.len() {
+        let bytes = &letters[..len];
+        let text = SmallText::from_slice(alloc, bytes)?;
+        assert_eq!(rt; text.bytes(), bytes);
+        assert_eq!(rt; text.into_vec(alloc)?.as_slice(), bytes);
+        let text = SmallText::from_vec(Vec::from_slice(alloc, bytes)?);
+        assert_eq!(rt; text.bytes(), bytes);
+        assert_eq!(rt; text.into_vec(alloc)?.as_slice(), bytes);
+    }
     Ok(())
 }
 
@@ -462,9 +706,11 @@ fn false_counts_reserve_nothing(rt: HostRuntime) -> Result<(), Fail> {
     let alloc = rt.alloc();
     claims_many::<GLockRec, _>(&rt, alloc, &GLOCK[..6], Unpack::Short)?;
     claims_many::<GLockRec, _>(&rt, alloc, &GLOCK[..28], Unpack::Short)?;
-    claims_many::<ShareRec, _>(&rt, alloc, &SHARE[..17], Unpack::Short)?;
-    claims_many::<ShareRec, _>(&rt, alloc, &SHARE[..129], Unpack::Short)?;
-    claims_many::<LeaseRec, _>(&rt, alloc, &LEASE[..14], Unpack::Short)?;
+    claims_many::<ShareRec, _>(&rt, alloc, &SHARE[..18], Unpack::Short)?;
+    claims_many::<ShareRec, _>(&rt, alloc, &SHARE[..132], Unpack::Short)?;
+    claims_many::<ShareRec, _>(&rt, alloc, &OLD_SHARE[..17], Unpack::Short)?;
+    claims_many::<ShareRec, _>(&rt, alloc, &OLD_SHARE[..129], Unpack::Short)?;
+    claims_many::<LeaseRec, _>(&rt, alloc, &LEASE[..22], Unpack::Short)?;
     claims_many::<RegisterRec, _>(&rt, alloc, &REGISTER[..23], Unpack::BadField(7))?;
     claims_many::<RangeRec, _>(&rt, alloc, &RANGES[..10], Unpack::Short)?;
     claims_many::<MailRec, _>(&rt, alloc, &MAIL[..10], Unpack::Short)?;
@@ -475,15 +721,29 @@ fn false_counts_reserve_nothing(rt: HostRuntime) -> Result<(), Fail> {
 // The entries of a record, read in place, twice.
 #[test]
 fn entries_in_place(rt: HostRuntime) -> Result<(), Fail> {
-    let (entries, rest) = list_at::<ShareEntry, ShareEntryRow>(&SHARE[17..])?;
+    let (entries, rest) = list_at::<ShareEntry, ShareEntryRow>(&SHARE[18..])?;
     let mut handles = Vec::new(rt.alloc());
     for entry in entries.copy() {
-        handles.push(entry.handle)?;
+        handles.push((entry.handle, entry.marked))?;
     }
     for entry in entries {
-        handles.push(entry.handle)?;
+        handles.push((entry.handle, entry.marked))?;
     }
-    assert_eq!(rt; handles.as_slice(), [4, 9, 4, 9].as_slice());
+    let twice = [(4, false), (9, true), (4, false), (9, true)];
+    assert_eq!(rt; handles.as_slice(), twice.as_slice());
+    assert_eq!(rt; rest.len(), 16);
+    Ok(())
+}
+
+// The same in version 1, where no entry is marked.
+#[test]
+fn unmarked_entries_in_place(rt: HostRuntime) -> Result<(), Fail> {
+    let (entries, rest) = list_at::<ShareEntry, UnmarkedEntryRow>(&OLD_SHARE[17..])?;
+    let mut handles = Vec::new(rt.alloc());
+    for entry in entries {
+        handles.push((entry.handle, entry.marked))?;
+    }
+    assert_eq!(rt; handles.as_slice(), [(4, false), (9, false)].as_slice());
     assert_eq!(rt; rest.len(), 16);
     Ok(())
 }

@@ -109,6 +109,11 @@ fn first_bad_lines(rt: HostRuntime) {
         ("9 fly", 1, 16),
         ("1", 1, 16),
         ("1 close x", 1, 4),
+        ("worker 1 1 0 0 m s old", 0, 0),
+        ("worker 1 1 0 0 m s older", 1, 25),
+        ("worker 1 1 0 0 m s old old", 1, 3),
+        ("worker 2 1 0 0 m s older", 1, 6),
+        ("phase 0 old", 1, 3),
     ] {
         assert_eq!(rt;
             told(rt.alloc(), text.as_bytes()),
@@ -127,6 +132,7 @@ fn first_bad_calls(rt: HostRuntime) -> Result<(), Fail> {
         ("1 recv", 0, 0),
         ("1 close 1\n1 close 1 !take", 0, 0),
         ("2 close 1", 0, 0),
+        ("2 delete 1 on\n1 delete 1 off !take", 0, 0),
         ("1 open 1 0x3 r overwrite lease=1:RWH durable=60", 0, 0),
         ("1 recv\n1 fly", 6, 18),
         ("9 fly", 5, 17),
@@ -138,9 +144,16 @@ fn first_bad_calls(rt: HostRuntime) -> Result<(), Fail> {
         ("1 fly 1 2", 5, 18),
         ("1 recv !take !take", 5, 3),
         ("1 open 1 0x3", 5, 3),
-        ("1 open 1 0x3 r overwrite durable=1 lease=1:R x", 5, 3),
+        (
+            "1 open 1 0x3 r overwrite durable=1 lease=1:R delete x",
+            5,
+            3,
+        ),
+        ("1 delete 1", 5, 3),
+        ("1 delete 1 on off", 5, 3),
         ("1 status -S -L -B -S", 5, 3),
         ("1 close 4294967296", 5, 4),
+        ("1 delete 4294967296 On", 5, 4),
         ("1 lock 1 0 x s now", 5, 4),
         ("1 ack 18446744073709551616 R", 5, 4),
         ("1 open 2 0x3 r", 5, 19),
@@ -154,6 +167,10 @@ fn first_bad_calls(rt: HostRuntime) -> Result<(), Fail> {
         ("1 open 1 0x3 dr", 5, 21),
         ("1 open 1 0x3 rr x", 5, 21),
         ("1 open 1 0x3 r overwrite overwrite", 5, 22),
+        ("1 open 1 0x3 r overwrite durable=1 lease=1:R x", 5, 22),
+        ("1 open 1 0x3 r delete delete", 5, 22),
+        ("1 delete 1 On", 5, 22),
+        ("1 delete 1 wait", 5, 22),
         ("1 open 1 0x3 r lease=1R", 5, 22),
         ("1 open 1 0x3 r lease=18446744073709551616:R", 5, 22),
         ("1 open 1 0x3 r durable=0", 5, 22),
@@ -305,7 +322,7 @@ fn planned(alloc: Global, line: &str) -> Result<Option<(Call, Option<Point>)>, F
     Ok(found)
 }
 
-fn opened(lease: Option<LeaseAsk>, durable: u32, overwrite: bool) -> Call {
+fn opened(lease: Option<LeaseAsk>, durable: u32, overwrite: bool, delete: bool) -> Call {
     Call::OpenFile {
         file: 2,
         access: Access(0x1_0003),
@@ -313,7 +330,7 @@ fn opened(lease: Option<LeaseAsk>, durable: u32, overwrite: bool) -> Call {
         lease,
         durable,
         overwrite,
-        delete: false,
+        delete,
     }
 }
 
@@ -347,31 +364,45 @@ fn each_call_is_read(rt: HostRuntime) -> Result<(), Fail> {
         wait,
     };
     for (line, call, stop) in [
-        ("1 open 2 0x10003 rd", opened(None, 0, false), None),
-        ("1 open 2 0x10003 rd overwrite", opened(None, 0, true), None),
+        ("1 open 2 0x10003 rd", opened(None, 0, false, false), None),
+        (
+            "1 open 2 0x10003 rd overwrite",
+            opened(None, 0, true, false),
+            None,
+        ),
+        (
+            "1 open 2 0x10003 rd delete",
+            opened(None, 0, false, true),
+            None,
+        ),
+        (
+            "1 open 2 0x10003 rd durable=60 delete lease=9:RH overwrite !store",
+            opened(asks(9, 3), 60, true, true),
+            Some(Point::Store),
+        ),
         (
             "1 open 2 0x10003 rd durable=4294967295 lease=9:-",
-            opened(asks(9, 0), 4_294_967_295, false),
+            opened(asks(9, 0), 4_294_967_295, false, false),
             None,
         ),
         (
             "1 open 2 0x10003 rd lease=09:R !release",
-            opened(asks(9, 1), 0, false),
+            opened(asks(9, 1), 0, false, false),
             Some(Point::Release),
         ),
         (
             "2 open 2 0x10003 rd lease=0:RW",
-            opened(asks(0, 5), 0, false),
+            opened(asks(0, 5), 0, false, false),
             None,
         ),
         (
             "1 open 2 0x10003 rd lease=1:RH durable=1",
-            opened(asks(1, 3), 1, false),
+            opened(asks(1, 3), 1, false, false),
             None,
         ),
         (
             "1 open 02 0x00010003 rd overwrite durable=60 lease=1:RWH",
-            opened(asks(1, 7), 60, true),
+            opened(asks(1, 7), 60, true, false),
             None,
         ),
         (
@@ -380,6 +411,22 @@ fn each_call_is_read(rt: HostRuntime) -> Result<(), Fail> {
                 handle: 4_294_967_295,
             },
             Some(Point::Take),
+        ),
+        (
+            "1 delete 4294967295 on",
+            Call::Delete {
+                handle: 4_294_967_295,
+                on: true,
+            },
+            None,
+        ),
+        (
+            "1 delete 007 off !commit",
+            Call::Delete {
+                handle: 7,
+                on: false,
+            },
+            Some(Point::Commit),
         ),
         (
             "1 ack 18446744073709551615 RH !intent",
@@ -456,5 +503,21 @@ fn each_call_is_read(rt: HostRuntime) -> Result<(), Fail> {
         let read = planned(rt.alloc(), line)?;
         assert_eq!(rt; read, Some((call, stop)), "of {line}");
     }
+    Ok(())
+}
+
+// Which workers are of an old release.
+#[test]
+fn old_workers_are_read(rt: HostRuntime) -> Result<(), Fail> {
+    let text = b"worker 1 1 0 0 m s\nworker 2 2 0 0 m s old\nworker 3 3 0 0 old old";
+    if text.len() > MAX_SCRIPT {
+        return Ok(());
+    }
+    let script = parse(rt.alloc(), text)?;
+    let mut found = Vec::new(rt.alloc());
+    for worker in script.setup.workers.as_slice() {
+        found.push(worker.old)?;
+    }
+    assert_eq!(rt; found.as_slice(), [false, true, false].as_slice());
     Ok(())
 }

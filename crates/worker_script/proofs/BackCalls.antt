@@ -11,8 +11,7 @@ use Rattle.sid_core.specs.Values.{IsU32, IsSpan}
 use Rattle.sid_core.specs.Words.{word_of, word_text, read_word}
 use Rattle.sid_core.proofs.Spelling.{state-back, share-back, lock-back, glock-back}
 use Rattle.worker_script.specs.Values.{value, is_number}
-use Rattle.worker_script.specs.Words.{wait_text, wait_of, stop_text, stop_of}
-use Rattle.worker_script.specs.Words as words
+use Rattle.worker_script.specs.Words.{wait_text, wait_of, on_text, on_of}
 use Rattle.worker_script.specs.Lines.{Draft, script_of, is_declared}
 use Rattle.worker_script.specs.Calls.{is_length, are_numbers, names_no_worker, open_fault, call_of}
 use Rattle.worker_script.specs.Spelling.{call_front}
@@ -21,6 +20,11 @@ use Rattle.worker_script.proofs.BackNumbers.{value-back, value32-back, u32-back,
 use Rattle.worker_script.proofs.BackOptions.{asked-back, options-length, flags-back, tables-back, flags-length}
 
 -- ---- the call
+
+on-back : (on : Bool) → on_of (on_text on) ≡ Some on
+unfolding on_of
+on-back false = refl
+on-back true = refl
 
 wait-back : (wait : Bool) → wait_of (wait_text wait) ≡ Some wait
 unfolding wait_of
@@ -43,7 +47,7 @@ span-back make handle span fits is = rw (value32-back handle fits, value-back sp
 
 -- What a written call, with these tokens behind it, is read as by its parts.
 pub record IsBack (draft : Draft) (worker : ℕ) (call : Call) (rest : List (List ℕ)) : Type 0 where
-  pub word : words.word_of (word_text (word_of call)) ≡ Some (word_of call)
+  pub word : read_word (word_text (word_of call)) ≡ Some (word_of call)
   pub counted : is_length (word_of call) (length (call_front worker call)) ≡ true
   pub numbers : are_numbers (word_of call) (call_front worker call ++ rest) ≡ true
   pub named : names_no_worker (Some (word_of call)) draft (call_front worker call ++ rest) ≡ false
@@ -52,20 +56,21 @@ pub record IsBack (draft : Draft) (worker : ℕ) (call : Call) (rest : List (Lis
 
 pub call-back : (draft : Draft) (worker : ℕ) (call : Call) (rest : List (List ℕ)) → IsSetup (script_of draft).setup → IsCall (script_of draft).setup call → IsInScripts call
     → IsBack draft worker call rest
-unfolding words.word_of read_word open_fault call_of
+unfolding read_word open_fault call_of
 call-back draft worker (OpenFile file access share lease durable overwrite delete) rest setup is in_scripts =
     let fits = declared32 draft.files file is.0 setup.few_files in
     record {
       word = refl;
-      counted = options-length lease durable overwrite;
+      counted = options-length lease durable overwrite delete;
       numbers = u32-back file fits;
       named = refl;
       opens = rw (value32-back file fits, declared-back draft.files file is.0, access-back access.0 is.1, share-back share.0 is.2) refl;
-      spelled = rw (value32-back file fits, asked-back _ _ _ _ _ lease durable overwrite rest is.3 is.4, access-back access.0 is.1, share-back share.0 is.2, in_scripts) refl;
+      spelled = rw (value32-back file fits, asked-back _ _ _ _ _ lease durable overwrite delete rest is.3 is.4, access-back access.0 is.1, share-back share.0 is.2) refl;
     }
 call-back draft worker (Close handle) rest setup is in_scripts =
     record { word = refl; counted = refl; numbers = u32-back handle is; named = refl; opens = refl; spelled = rw (value32-back handle is) refl }
-call-back draft worker (Delete handle on) rest setup is in_scripts = absurd in_scripts
+call-back draft worker (Delete handle on) rest setup is in_scripts =
+    record { word = refl; counted = refl; numbers = u32-back handle is; named = refl; opens = refl; spelled = rw (value32-back handle is, on-back on) refl }
 call-back draft worker (Ack key state) rest setup is in_scripts =
     record { word = refl; counted = refl; numbers = u64-back key is.0; named = refl; opens = refl; spelled = rw (value-back key is.0, state-back state.0 is.1) refl }
 call-back draft worker (Lock handle span mode wait) rest setup is in_scripts =

@@ -1,8 +1,9 @@
 -- A line that is written, where it may stand, is read back.
-use Rattle.std.proofs.Common.{◌≡◌, ℕ, ◌+◌, ◌-◌, ◌<◌, ◌≤◌, ◌^◌, Bool, true, false, not, eqb, leb, ◌&&◌, List, [], ◌∷◌, ◌++◌, length, Some, None, is_none, Ok, refl, sym, ap, ◌∙◌, arith}
+use Rattle.std.proofs.Common.{◌≡◌, ℕ, ◌+◌, ◌-◌, ◌<◌, ◌≤◌, ◌^◌, Bool, true, false, not, eqb, leb, ◌&&◌, ◌||◌, List, [], ◌∷◌, ◌++◌, length, Some, None, is_none, Ok, refl, ap, ◌∙◌, arith}
 use Rattle.std.specs.Prelude.{codes}
 use Rattle.std.specs.Fmt.{decimal}
 use Rattle.std.specs.List.{AllByRecursion, list_all, list_any}
+use Rattle.std.specs.Str.{bytes_eq}
 use Rattle.std.proofs.lemmas.Bool.{and_parts, and_from, le-leb, eq-eqb, lt-leb, le-ltb, not_from_true}
 use Rattle.std.proofs.lemmas.Bool.Decides.{nat_tests}
 use Rattle.std.proofs.lemmas.Fmt.{decimal_nonempty}
@@ -17,13 +18,13 @@ use Rattle.sid_core.specs.Values.{IsU32, IsU64, IsMoment, IsText, IsPrintable}
 use Rattle.sid_core.specs.Words.{word_of, word_text}
 use Rattle.worker_script.specs.declared.script.Phase.{Phase}
 use Rattle.worker_script.specs.declared.script.Planned.{Planned}
-use Rattle.worker_script.specs.Text.{is_empty}
+use Rattle.worker_script.specs.Text.{token, is_empty}
 use Rattle.worker_script.specs.Values.{is_digit, is_short}
 use Rattle.worker_script.specs.Script.{numbers_of, is_status_call, statuses_in, IsPlanned}
 use Rattle.worker_script.specs.Lines.{Draft, script_of, phases_of, moment_of, planned_in, new_phase, worker_faults, worker_fault, worker_line, worker_info, file_faults, file_fault, file_line, file_info, phase_faults, phase_fault, phase_line}
 use Rattle.worker_script.specs.Reading.{word_line, read_line}
 use Rattle.worker_script.specs.Calls.{is_status, has_stopped, head_faults, head_fault, stop_faults, stop_fault, with_call, call_in, call_line}
-use Rattle.worker_script.specs.Spelling.{operands, stop_tokens, call_front, call_tokens, worker_tokens, file_tokens, phase_tokens, line_text}
+use Rattle.worker_script.specs.Spelling.{if_chosen, operands, stop_tokens, call_front, call_tokens, worker_tokens, file_tokens, phase_tokens, line_text}
 use Rattle.worker_script.proofs.Faults.{none-told}
 use Rattle.worker_script.proofs.BackText.{is_printable, is_token, line-back}
 use Rattle.worker_script.proofs.BackNumbers.{digits-back, value-back, value32-back, u32-back, u64-back, number-back}
@@ -190,13 +191,31 @@ text-token t is = and_from (not (is_empty t)) (list_all is_printable t) (some t 
 text-short : (t : List ℕ) → IsText t → is_short t ≡ true
 text-short t is = le-leb (length t) MAX_TEXT is.short
 
+-- the last word of a worker line, behind seven others
+module _ (a b c d e f g : List ℕ) where
+  old-length : (old : Bool) → let ts = a ∷ b ∷ c ∷ d ∷ e ∷ f ∷ g ∷ if_chosen old (codes "old") in (eqb (length ts) 7 || eqb (length ts) 8) ≡ true
+  old-length false = refl
+  old-length true = refl
+
+  old-known : (old : Bool) → let ts = a ∷ b ∷ c ∷ d ∷ e ∷ f ∷ g ∷ if_chosen old (codes "old") in (eqb (length ts) 8 && not (bytes_eq (token 7 ts) (codes "old"))) ≡ false
+  old-known false = refl
+  old-known true = refl
+
+  old-back : (old : Bool) → eqb (length (a ∷ b ∷ c ∷ d ∷ e ∷ f ∷ g ∷ if_chosen old (codes "old"))) 8 ≡ old
+  old-back false = refl
+  old-back true = refl
+
+old-token : (old : Bool) → list_all is_token (if_chosen old (codes "old")) ≡ true
+old-token false = refl
+old-token true = refl
+
 worker-none : (done : List WorkerInfo) (files : List FileInfo) (worker : WorkerInfo) (number : ℕ) → IsWorker worker → IsU32 number → number ≡ length done + 1
     → length done < MAX_WORKERS → list_any (λ other. eqb other.pid worker.pid) done ≡ false → worker_fault (declaring done files) (worker_tokens number worker) ≡ None
 unfolding worker_fault
 worker-none done files worker number is fits next room other =
     let pid = number-back 1 (2 ^ 32 - 1) worker.pid is.pid.0 (omega (arith, is.pid.1)) (omega (arith, is.pid.1)) in
     none-told (worker_faults (declaring done files) (worker_tokens number worker)) (
-      refl,
+      not_from_true _ (old-length (codes "worker") (decimal number) (decimal worker.pid) (decimal worker.uid) (decimal worker.guid) worker.machine worker.share worker.old),
       (
         rw (u32-back number fits, pid, u32-back worker.uid is.uid, u64-back worker.guid is.guid) refl,
         (
@@ -205,19 +224,19 @@ worker-none done files worker number is fits next room other =
             rw (value32-back number fits, eq-eqb number (length done + 1) next) refl,
             (
               lt-leb MAX_WORKERS (length done) room,
-              (rw (value32-back worker.pid is.pid.1) other, (rw (text-short worker.machine is.machine, text-short worker.share is.share) refl, tt)),
+              (rw (value32-back worker.pid is.pid.1) other, (rw (text-short worker.machine is.machine, text-short worker.share is.share) refl, (old-known (codes "worker") (decimal number) (decimal worker.pid) (decimal worker.uid) (decimal worker.guid) worker.machine worker.share worker.old, tt))),
             ),
           ),
         ),
       ),
     )
 
-worker-same : (worker : WorkerInfo) (number : ℕ) → IsWorker worker → worker.old ≡ false → worker_info (worker_tokens number worker) ≡ worker
-worker-same worker number is new = λ i. record worker {
+worker-same : (worker : WorkerInfo) (number : ℕ) → IsWorker worker → worker_info (worker_tokens number worker) ≡ worker
+worker-same worker number is = λ i. record worker {
   pid = value32-back worker.pid is.pid.1 i;
   uid = value32-back worker.uid is.uid i;
   guid = value-back worker.guid is.guid i;
-  old = sym new i;
+  old = old-back (codes "worker") (decimal number) (decimal worker.pid) (decimal worker.uid) (decimal worker.guid) worker.machine worker.share worker.old i;
 }
 
 worker-is-tokens : (worker : WorkerInfo) (number : ℕ) → IsWorker worker → IsU32 number → list_all is_token (worker_tokens number worker) ≡ true
@@ -228,18 +247,18 @@ worker-is-tokens worker number is fits = rw (
   number-token worker.guid is.guid,
   text-token worker.machine is.machine,
   text-token worker.share is.share,
-) refl
+) (old-token worker.old)
 
-pub worker-read : (done : List WorkerInfo) (files : List FileInfo) (worker : WorkerInfo) (number : ℕ) → IsWorker worker → worker.old ≡ false → number ≡ length done + 1
+pub worker-read : (done : List WorkerInfo) (files : List FileInfo) (worker : WorkerInfo) (number : ℕ) → IsWorker worker → number ≡ length done + 1
     → length done < MAX_WORKERS → list_any (λ other. eqb other.pid worker.pid) done ≡ false
     → read_line (declaring done files) (line_text (worker_tokens number worker)) ≡ Ok (declaring (done ++ worker ∷ []) files)
 unfolding word_line worker_line
-worker-read done files worker number is new next room other =
+worker-read done files worker number is next room other =
     let fits : IsU32 number = omega (arith, next, room) in
-    let numbers = decimal number ∷ decimal worker.pid ∷ decimal worker.uid ∷ decimal worker.guid ∷ worker.machine ∷ worker.share ∷ [] in
+    let numbers = decimal number ∷ decimal worker.pid ∷ decimal worker.uid ∷ decimal worker.guid ∷ worker.machine ∷ worker.share ∷ if_chosen worker.old (codes "old") in
     line-back (declaring done files) (declaring (done ++ worker ∷ []) files) (codes "worker") numbers
     (worker-is-tokens worker number is fits)
-    (rw (worker-none done files worker number is fits next room other) (ap (λ w. Ok (declaring (done ++ w ∷ []) files)) (worker-same worker number is new)))
+    (rw (worker-none done files worker number is fits next room other) (ap (λ w. Ok (declaring (done ++ w ∷ []) files)) (worker-same worker number is)))
 
 file-none : (workers : List WorkerInfo) (done : List FileInfo) (file : FileInfo) (number : ℕ) → IsFile file → IsU32 number → number ≡ length done + 1
     → length done < MAX_FILES → list_any (λ other. same_file other file) done ≡ false → file_fault (declaring workers done) (file_tokens number file) ≡ None

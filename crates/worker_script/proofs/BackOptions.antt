@@ -64,38 +64,66 @@ overwrite-back : (asked : Asked) → asked.overwrite ≡ false → with_option a
 unfolding with_option
 overwrite-back asked none = rw none refl
 
+delete-back : (asked : Asked) → asked.delete ≡ false → with_option asked (codes "delete") ≡ Some (record asked { delete = true })
+unfolding with_option
+delete-back asked none = rw none refl
+
 -- what an open asks for
-abbrev pub asks : Option LeaseAsk → ℕ → Bool → Asked
-asks lease durable overwrite = record { lease = lease; durable = durable; overwrite = overwrite }
+abbrev pub asks : Option LeaseAsk → ℕ → Bool → Bool → Asked
+asks lease durable overwrite delete = record { lease = lease; durable = durable; overwrite = overwrite; delete = delete }
 
-pub asked-back : (a b c d e : List ℕ) (lease : Option LeaseAsk) (durable : ℕ) (overwrite : Bool) (rest : List (List ℕ))
+pub asked-back : (a b c d e : List ℕ) (lease : Option LeaseAsk) (durable : ℕ) (overwrite delete : Bool) (rest : List (List ℕ))
     → IfSome lease (λ ask. IsU64 ask.key × IsState ask.state.0) → IsU32 durable
-    → asked_in (length (a ∷ b ∷ c ∷ d ∷ e ∷ (lease_tokens lease ++ (durable_tokens durable ++ if_chosen overwrite (codes "overwrite")))))
-    (a ∷ b ∷ c ∷ d ∷ e ∷ (lease_tokens lease ++ (durable_tokens durable ++ if_chosen overwrite (codes "overwrite"))) ++ rest)
-    ≡ Some (asks lease durable overwrite)
+    → asked_in (length (a ∷ b ∷ c ∷ d ∷ e ∷ (lease_tokens lease ++ (durable_tokens durable ++ (if_chosen overwrite (codes "overwrite") ++ if_chosen delete (codes "delete"))))))
+    (a ∷ b ∷ c ∷ d ∷ e ∷ (lease_tokens lease ++ (durable_tokens durable ++ (if_chosen overwrite (codes "overwrite") ++ if_chosen delete (codes "delete")))) ++ rest)
+    ≡ Some (asks lease durable overwrite delete)
 unfolding asked_in
-asked-back a b c d e None zero false rest is fits = refl
-asked-back a b c d e None zero true rest is fits = rw (overwrite-back (asks None zero false) refl) refl
-asked-back a b c d e None (suc n) false rest is fits = rw (durable-back (asks None zero false) n refl fits) refl
-asked-back a b c d e None (suc n) true rest is fits = rw (durable-back (asks None zero false) n refl fits, overwrite-back (asks None (suc n) false) refl) refl
-asked-back a b c d e (Some ask) zero false rest is fits = rw (lease-back (asks None zero false) ask refl is.0 is.1) refl
-asked-back a b c d e (Some ask) zero true rest is fits =
-    rw (lease-back (asks None zero false) ask refl is.0 is.1, overwrite-back (asks (Some ask) zero false) refl) refl
-asked-back a b c d e (Some ask) (suc n) false rest is fits =
-    rw (lease-back (asks None zero false) ask refl is.0 is.1, durable-back (asks (Some ask) zero false) n refl fits) refl
-asked-back a b c d e (Some ask) (suc n) true rest is fits =
-    rw (lease-back (asks None zero false) ask refl is.0 is.1, durable-back (asks (Some ask) zero false) n refl fits, overwrite-back (asks (Some ask) (suc n) false) refl) refl
+asked-back a b c d e None zero false false rest is fits = refl
+asked-back a b c d e None zero false true rest is fits = rw (delete-back (asks None zero false false) refl) refl
+asked-back a b c d e None zero true false rest is fits = rw (overwrite-back (asks None zero false false) refl) refl
+asked-back a b c d e None zero true true rest is fits =
+    rw (overwrite-back (asks None zero false false) refl, delete-back (asks None zero true false) refl) refl
+asked-back a b c d e None (suc n) false false rest is fits = rw (durable-back (asks None zero false false) n refl fits) refl
+asked-back a b c d e None (suc n) false true rest is fits =
+    rw (durable-back (asks None zero false false) n refl fits, delete-back (asks None (suc n) false false) refl) refl
+asked-back a b c d e None (suc n) true false rest is fits =
+    rw (durable-back (asks None zero false false) n refl fits, overwrite-back (asks None (suc n) false false) refl) refl
+asked-back a b c d e None (suc n) true true rest is fits =
+    rw (durable-back (asks None zero false false) n refl fits, overwrite-back (asks None (suc n) false false) refl, delete-back (asks None (suc n) true false) refl) refl
+asked-back a b c d e (Some ask) zero false false rest is fits = rw (lease-back (asks None zero false false) ask refl is.0 is.1) refl
+asked-back a b c d e (Some ask) zero false true rest is fits =
+    rw (lease-back (asks None zero false false) ask refl is.0 is.1, delete-back (asks (Some ask) zero false false) refl) refl
+asked-back a b c d e (Some ask) zero true false rest is fits =
+    rw (lease-back (asks None zero false false) ask refl is.0 is.1, overwrite-back (asks (Some ask) zero false false) refl) refl
+asked-back a b c d e (Some ask) zero true true rest is fits =
+    rw (lease-back (asks None zero false false) ask refl is.0 is.1, overwrite-back (asks (Some ask) zero false false) refl, delete-back (asks (Some ask) zero true false) refl) refl
+asked-back a b c d e (Some ask) (suc n) false false rest is fits =
+    rw (lease-back (asks None zero false false) ask refl is.0 is.1, durable-back (asks (Some ask) zero false false) n refl fits) refl
+asked-back a b c d e (Some ask) (suc n) false true rest is fits =
+    rw (lease-back (asks None zero false false) ask refl is.0 is.1, durable-back (asks (Some ask) zero false false) n refl fits, delete-back (asks (Some ask) (suc n) false false) refl) refl
+asked-back a b c d e (Some ask) (suc n) true false rest is fits =
+    rw (lease-back (asks None zero false false) ask refl is.0 is.1, durable-back (asks (Some ask) zero false false) n refl fits, overwrite-back (asks (Some ask) (suc n) false false) refl) refl
+asked-back a b c d e (Some ask) (suc n) true true rest is fits =
+    rw (lease-back (asks None zero false false) ask refl is.0 is.1, durable-back (asks (Some ask) zero false false) n refl fits, overwrite-back (asks (Some ask) (suc n) false false) refl, delete-back (asks (Some ask) (suc n) true false) refl) refl
 
-pub options-length : (lease : Option LeaseAsk) (durable : ℕ) (overwrite : Bool)
-    → is_length word.Open (length ([] ∷ [] ∷ [] ∷ [] ∷ [] ∷ (lease_tokens lease ++ (durable_tokens durable ++ if_chosen overwrite (codes "overwrite"))))) ≡ true
-options-length None zero false = refl
-options-length None zero true = refl
-options-length None (suc n) false = refl
-options-length None (suc n) true = refl
-options-length (Some ask) zero false = refl
-options-length (Some ask) zero true = refl
-options-length (Some ask) (suc n) false = refl
-options-length (Some ask) (suc n) true = refl
+pub options-length : (lease : Option LeaseAsk) (durable : ℕ) (overwrite delete : Bool)
+    → is_length word.Open (length ([] ∷ [] ∷ [] ∷ [] ∷ [] ∷ (lease_tokens lease ++ (durable_tokens durable ++ (if_chosen overwrite (codes "overwrite") ++ if_chosen delete (codes "delete")))))) ≡ true
+options-length None zero false false = refl
+options-length None zero false true = refl
+options-length None zero true false = refl
+options-length None zero true true = refl
+options-length None (suc n) false false = refl
+options-length None (suc n) false true = refl
+options-length None (suc n) true false = refl
+options-length None (suc n) true true = refl
+options-length (Some ask) zero false false = refl
+options-length (Some ask) zero false true = refl
+options-length (Some ask) zero true false = refl
+options-length (Some ask) zero true true = refl
+options-length (Some ask) (suc n) false false = refl
+options-length (Some ask) (suc n) false true = refl
+options-length (Some ask) (suc n) true false = refl
+options-length (Some ask) (suc n) true true = refl
 
 -- ---- flags
 

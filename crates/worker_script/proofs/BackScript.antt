@@ -120,18 +120,18 @@ differs same [] x ys d = refl
 differs same (y ∷ xs) x ys d = rw (all-mid (λ z. same y z ≡ false) xs x ys d.0, differs same xs x ys d.1) refl
 
 workers-read : (whole done workers : List WorkerInfo) (number : ℕ) → whole ≡ done ++ workers → number ≡ length done + 1 → length whole ≤ MAX_WORKERS
-    → IsDistinct nat_eq (map (λ w. w.pid) whole) → AllByRecursion IsWorker workers → AllByRecursion (λ (w : WorkerInfo). w.old ≡ false) workers
+    → IsDistinct nat_eq (map (λ w. w.pid) whole) → AllByRecursion IsWorker workers
     → Takes (declaring done []) (worker_lines number workers) (declaring whole [])
-workers-read whole done [] number e next few differ all new = ap (λ ws. declaring ws []) (sym (e ∙ append-nil done))
-workers-read whole done (worker ∷ workers) number e next few differ all new =
+workers-read whole done [] number e next few differ all = ap (λ ws. declaring ws []) (sym (e ∙ append-nil done))
+workers-read whole done (worker ∷ workers) number e next few differ all =
     let pid : WorkerInfo → ℕ = λ w. w.pid in
     let count : length whole ≡ length done + length (worker ∷ workers) = rw e (length-append done (worker ∷ workers)) in
     let more = length-append done (worker ∷ []) in
     let others = sym (any-map (λ n. eqb n worker.pid) pid done)
     ∙ differs nat_eq (map pid done) worker.pid (map pid workers) (subst (IsDistinct nat_eq) (ap (map pid) e ∙ map-append pid done (worker ∷ workers)) differ) in (
       declaring (done ++ worker ∷ []) [],
-      worker-read done [] worker number all.0 new.0 next (omega (arith, count, few)) others,
-      workers-read whole (done ++ worker ∷ []) workers (number + 1) (e ∙ sym (append_assoc done (worker ∷ []) workers)) (omega (arith, next, more)) few differ all.1 new.1,
+      worker-read done [] worker number all.0 next (omega (arith, count, few)) others,
+      workers-read whole (done ++ worker ∷ []) workers (number + 1) (e ∙ sym (append_assoc done (worker ∷ []) workers)) (omega (arith, next, more)) few differ all.1,
     )
 
 files-read : (workers : List WorkerInfo) (whole done files : List FileInfo) (number : ℕ) → whole ≡ done ++ files → number ≡ length done + 1 → length whole ≤ MAX_FILES
@@ -150,7 +150,7 @@ files-read workers whole done (file ∷ files) number e next few differ all =
 -- Its lines lead from nothing to the script.
 script-takes : (s : Script) → IsScript s → (after : Draft) × Takes nothing (script_lines s) after × (script_of after ≡ s)
 script-takes s has =
-    let workers = workers-read s.setup.workers [] s.setup.workers 1 refl refl has.setup.few_workers has.setup.pids_differ has.setup.workers has.none_old in
+    let workers = workers-read s.setup.workers [] s.setup.workers 1 refl refl has.setup.few_workers has.setup.pids_differ has.setup.workers in
     let files = files-read s.setup.workers s.setup.files [] s.setup.files 1 refl refl has.setup.few_files has.setup.files_differ has.setup.files in
     let next = are-next s.setup (all_calls s.phases) [] (all_calls s.phases) refl has.few_calls has.few_statuses has.numbered (all-calls s.setup s.phases has.phases) has.stopped in
     let phases = phases-read s.setup [] None s.phases has.setup (omega (arith, has.few_phases)) has.phases has.moments next in (

@@ -21,7 +21,7 @@ use Rattle.sid_core.specs.Values.{IsU32, IsU64, IsSpan, IsState}
 use Rattle.sid_core.specs.Words.{word_of, word_text, state_text, share_text, lock_text, glock_text}
 use Rattle.worker_script.specs.Text.{token, is_empty}
 use Rattle.worker_script.specs.Values.{is_digit}
-use Rattle.worker_script.specs.Words.{wait_text, stop_text, stop_of}
+use Rattle.worker_script.specs.Words.{wait_text, on_text, stop_text, stop_of}
 use Rattle.worker_script.specs.Lines.{Draft, script_of}
 use Rattle.worker_script.specs.Calls.{begins_stop, last_token, has_stop, call_length, planned_stop}
 use Rattle.worker_script.specs.Spelling.{if_chosen, lease_text, lease_tokens, durable_tokens, flag_tokens, span_tokens, access_text, operands, stop_tokens, call_front}
@@ -96,16 +96,24 @@ lease-operand ask fits = rw (all-append is_printable (decimal ask.key) (58 ∷ s
 durable-operand : (n : ℕ) → IsU32 n → is_operand (codes "durable=" ++ decimal n) ≡ true
 durable-operand n fits = rw (number-printable n (omega arith)) refl
 
-options-operands : (lease : Option LeaseAsk) (durable : ℕ) (overwrite : Bool) → IfSome lease (λ ask. IsU64 ask.key × IsState ask.state.0) → IsU32 durable
-    → list_all is_operand (lease_tokens lease ++ (durable_tokens durable ++ if_chosen overwrite (codes "overwrite"))) ≡ true
-options-operands None zero false is fits = refl
-options-operands None zero true is fits = refl
-options-operands None (suc n) false is fits = rw (durable-operand (suc n) fits) refl
-options-operands None (suc n) true is fits = rw (durable-operand (suc n) fits) refl
-options-operands (Some ask) zero false is fits = rw (lease-operand ask is.0) refl
-options-operands (Some ask) zero true is fits = rw (lease-operand ask is.0) refl
-options-operands (Some ask) (suc n) false is fits = rw (lease-operand ask is.0, durable-operand (suc n) fits) refl
-options-operands (Some ask) (suc n) true is fits = rw (lease-operand ask is.0, durable-operand (suc n) fits) refl
+options-operands : (lease : Option LeaseAsk) (durable : ℕ) (overwrite delete : Bool) → IfSome lease (λ ask. IsU64 ask.key × IsState ask.state.0) → IsU32 durable
+    → list_all is_operand (lease_tokens lease ++ (durable_tokens durable ++ (if_chosen overwrite (codes "overwrite") ++ if_chosen delete (codes "delete")))) ≡ true
+options-operands None zero false false is fits = refl
+options-operands None zero false true is fits = refl
+options-operands None zero true false is fits = refl
+options-operands None zero true true is fits = refl
+options-operands None (suc n) false false is fits = rw (durable-operand (suc n) fits) refl
+options-operands None (suc n) false true is fits = rw (durable-operand (suc n) fits) refl
+options-operands None (suc n) true false is fits = rw (durable-operand (suc n) fits) refl
+options-operands None (suc n) true true is fits = rw (durable-operand (suc n) fits) refl
+options-operands (Some ask) zero false false is fits = rw (lease-operand ask is.0) refl
+options-operands (Some ask) zero false true is fits = rw (lease-operand ask is.0) refl
+options-operands (Some ask) zero true false is fits = rw (lease-operand ask is.0) refl
+options-operands (Some ask) zero true true is fits = rw (lease-operand ask is.0) refl
+options-operands (Some ask) (suc n) false false is fits = rw (lease-operand ask is.0, durable-operand (suc n) fits) refl
+options-operands (Some ask) (suc n) false true is fits = rw (lease-operand ask is.0, durable-operand (suc n) fits) refl
+options-operands (Some ask) (suc n) true false is fits = rw (lease-operand ask is.0, durable-operand (suc n) fits) refl
+options-operands (Some ask) (suc n) true true is fits = rw (lease-operand ask is.0, durable-operand (suc n) fits) refl
 
 flags-operands : (shares files ranges : Bool) → list_all is_operand (flag_tokens (chosen shares files ranges)) ≡ true
 flags-operands true true true = refl
@@ -116,6 +124,10 @@ flags-operands false true true = refl
 flags-operands false true false = refl
 flags-operands false false true = refl
 flags-operands false false false = refl
+
+on-operand : (on : Bool) → list_all is_operand (on_text on ∷ []) ≡ true
+on-operand false = refl
+on-operand true = refl
 
 mode-operand : (mode : Mode) (wait : Bool) → list_all is_operand (lock_text mode ∷ wait_text wait ∷ []) ≡ true
 mode-operand Shared false = refl
@@ -135,9 +147,9 @@ span-operands handle span fits is = rw (number32-operand handle fits, number-ope
 operands-back : (draft : Draft) (call : Call) → IsSetup (script_of draft).setup → IsCall (script_of draft).setup call → IsInScripts call
     → list_all is_operand (word_text (word_of call) ∷ operands call) ≡ true
 operands-back draft (OpenFile file access share lease durable overwrite delete) setup is in_scripts =
-    rw (number32-operand file (declared32 draft.files file is.0 setup.few_files), access-operand access.0, share-operand share.0, options-operands lease durable overwrite is.3 is.4) refl
+    rw (number32-operand file (declared32 draft.files file is.0 setup.few_files), access-operand access.0, share-operand share.0, options-operands lease durable overwrite delete is.3 is.4) refl
 operands-back draft (Close handle) setup is in_scripts = rw (number32-operand handle is) refl
-operands-back draft (Delete handle on) setup is in_scripts = absurd in_scripts
+operands-back draft (Delete handle on) setup is in_scripts = rw (number32-operand handle is) (on-operand on)
 operands-back draft (Ack key state) setup is in_scripts = rw (number-operand key is.0, state-operand state.0) refl
 operands-back draft (Lock handle span mode wait) setup is in_scripts =
     rw (number32-operand handle is.0, number-operand span.start is.1.0, number-operand span.length is.1.1) (mode-operand mode wait)

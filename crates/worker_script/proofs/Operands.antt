@@ -46,7 +46,7 @@ some-numbers false m = refl
 -- A number is wrong where there is a word and nothing is kept.
 pub wrong_numbers : (w : Option CallWord) (ts : List (List ℕ)) → wrong_number w ts ≡ (is_some w && is_none (numbers_in w ts))
 wrong_numbers None ts = refl
-wrong_numbers (Some word.Delete) ts = refl
+wrong_numbers (Some word.Delete) ts = some-numbers (are_numbers word.Delete ts) _
 wrong_numbers (Some word.Open) ts = some-numbers (are_numbers word.Open ts) _
 wrong_numbers (Some word.Close) ts = some-numbers (are_numbers word.Close ts) _
 wrong_numbers (Some word.Ack) ts = some-numbers (are_numbers word.Ack ts) _
@@ -74,7 +74,7 @@ said draft false m x right e = cc
 -- The worker that a line names is the one that is kept.
 pub names_no_worker_is : (draft : Draft) (w : Option CallWord) (ts : List (List ℕ)) → wrong_number w ts ≡ false → names_no_worker w draft ts ≡ names_nobody draft (numbers_in w ts)
 names_no_worker_is draft None ts e = refl
-names_no_worker_is draft (Some word.Delete) ts e = refl
+names_no_worker_is draft (Some word.Delete) ts e = quiet draft (are_numbers word.Delete ts) _ refl
 names_no_worker_is draft (Some word.Reconnect) ts e = said draft (are_numbers word.Reconnect ts) _ _ e refl
 names_no_worker_is draft (Some word.Open) ts e = quiet draft (are_numbers word.Open ts) _ refl
 names_no_worker_is draft (Some word.Close) ts e = quiet draft (are_numbers word.Close ts) _ refl
@@ -108,7 +108,7 @@ with-numbers draft count ts m r false right e = cc
 pub call_in_is : (draft : Draft) (w : Option CallWord) (count : ℕ) (ts : List (List ℕ)) → wrong_number w ts ≡ false → call_behind draft count ts (known w) ≡ tail_in draft (numbers_in w ts) count ts
 unfolding call_of open_fault
 call_in_is draft None count ts e = refl
-call_in_is draft (Some word.Delete) count ts e = cc
+call_in_is draft (Some word.Delete) count ts e = with-numbers draft count ts _ _ (are_numbers word.Delete ts) e (pass draft ts (open_fault draft word.Delete ts) (call_of word.Delete count ts))
 call_in_is draft (Some word.Open) count ts e = with-numbers draft count ts _ _ (are_numbers word.Open ts) e (pass draft ts (open_fault draft word.Open ts) (call_of word.Open count ts))
 call_in_is draft (Some word.Close) count ts e = with-numbers draft count ts _ _ (are_numbers word.Close ts) e (pass draft ts (open_fault draft word.Close ts) (call_of word.Close count ts))
 call_in_is draft (Some word.Ack) count ts e = with-numbers draft count ts _ _ (are_numbers word.Ack ts) e (pass draft ts (open_fault draft word.Ack ts) (call_of word.Ack count ts))

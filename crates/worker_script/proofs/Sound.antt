@@ -1,6 +1,6 @@
 -- What is read is a script.
-use Rattle.std.proofs.Common.{◌≡◌, ℕ, ◌-◌, ◌^◌, ◌<◌, ◌≤◌, true, false, List, [], ◌∷◌, ◌++◌, length, map, Option, Some, None, ◌==◌, is_some, Ok, nat_eq, refl, subst, ◌∙◌, length-append, arith}
-use Rattle.std.proofs.lemmas.Bool.{and_parts, eqb-true, leb-false, not-false}
+use Rattle.std.proofs.Common.{◌≡◌, ℕ, ◌-◌, ◌^◌, ◌<◌, ◌≤◌, true, false, List, [], ◌∷◌, ◌++◌, length, map, Option, Some, None, ◌==◌, is_some, Ok, nat_eq, refl, subst, ◌∙◌, ◌||◌, ◌⊎◌, inl, inr, length-append, arith}
+use Rattle.std.proofs.lemmas.Bool.{and_parts, or_cases, eqb-true, leb-false, not-false}
 use Rattle.std.specs.List.{AllByRecursion}
 use Rattle.std.specs.Option.{option_to_list}
 use Rattle.std.proofs.lemmas.Bool.Decides.{nat_tests}
@@ -39,12 +39,11 @@ no-phases draft d none = rw (d.begun none, none-from draft.current none) refl
 
 -- What is declared may grow while there is no phase.
 declared-sound : (draft : Draft) (workers : List WorkerInfo) (files : List FileInfo) → IsDraft draft → is_some draft.current ≡ false
-    → IsSetup (record { workers = workers; files = files }) → AllByRecursion (λ (w : WorkerInfo). w.old ≡ false) workers → IsDraft (record draft { workers = workers; files = files })
-declared-sound draft workers files d none setup none_old =
+    → IsSetup (record { workers = workers; files = files }) → IsDraft (record draft { workers = workers; files = files })
+declared-sound draft workers files d none setup =
     record {
       script = record {
         setup = setup;
-        none_old = none_old;
         few_phases = d.script.few_phases;
         few_calls = d.script.few_calls;
         few_statuses = d.script.few_statuses;
@@ -56,13 +55,20 @@ declared-sound draft workers files d none setup none_old =
       begun = d.begun;
     }
 
--- A text of such a line, with this index.
-is-text : (ts : List (List ℕ)) (index count : ℕ) → AllByRecursion IsToken ts → length ts ≡ count → index < count → is_short (token index ts) ≡ true → IsText (token index ts)
-is-text ts index count all e within short = text-short (token index ts) (at-token IsToken ts index (rw e within) all) short
+-- a short token of such a line, with this index
+is-text : (ts : List (List ℕ)) (index : ℕ) → AllByRecursion IsToken ts → index < length ts → is_short (token index ts) ≡ true → IsText (token index ts)
+is-text ts index all within short = text-short (token index ts) (at-token IsToken ts index within all) short
+
+seven-or-eight : (n : ℕ) → ((n == 7) || (n == 8)) ≡ true → 7 ≤ n
+seven-or-eight n e = either (or_cases (n == 7) (n == 8) e)
+  where
+    either : ((n == 7) ≡ true) ⊎ ((n == 8) ≡ true) → 7 ≤ n
+    either (inl h) = let same = eqb-true n 7 h in omega (arith, same)
+    either (inr h) = let same = eqb-true n 8 h in omega (arith, same)
 
 is-worker : (draft : Draft) (ts : List (List ℕ)) → AllByRecursion IsToken ts → HasNone (worker_faults draft ts) → IsWorker (worker_info ts)
 is-worker draft ts all f =
-    let count = eqb-true (length ts) 7 (not-false _ f.0) in
+    let count = seven-or-eight (length ts) (not-false _ f.0) in
     let a = and_parts _ _ (not-false (are_worker_numbers ts) f.1.0) in
     let b = and_parts _ _ a.0 in
     let c = and_parts _ _ b.0 in
@@ -74,8 +80,8 @@ is-worker draft ts all f =
       pid = (pid.0, omega (arith, pid.1));
       uid = omega (arith, uid.1);
       guid = omega (arith, guid.1);
-      machine = is-text ts 5 7 all count (omega arith) texts.0;
-      share = is-text ts 6 7 all count (omega arith) texts.1;
+      machine = is-text ts 5 all (omega (arith, count)) texts.0;
+      share = is-text ts 6 all (omega (arith, count)) texts.1;
     }
 
 worker-setup : (draft : Draft) (ts : List (List ℕ)) → AllByRecursion IsToken ts → IsDraft draft → HasNone (worker_faults draft ts)
@@ -101,8 +107,7 @@ worker-sound draft after ts all d e =
     let workers = draft.workers ++ worker_info ts ∷ [] in
     let ok = checked-ok (worker_fault draft ts) (record draft { workers = workers }) after e in
     let f = none-there (worker_faults draft ts) ok.0 in
-    subst IsDraft ok.1 (declared-sound draft workers draft.files d f.1.1.0 (worker-setup draft ts all d f)
-    (all-push (λ (w : WorkerInfo). w.old ≡ false) draft.workers (worker_info ts) d.script.none_old refl))
+    subst IsDraft ok.1 (declared-sound draft workers draft.files d f.1.1.0 (worker-setup draft ts all d f))
 
 is-file : (draft : Draft) (ts : List (List ℕ)) → AllByRecursion IsToken ts → HasNone (file_faults draft ts) → IsFile (file_info ts)
 is-file draft ts all f =
@@ -115,8 +120,8 @@ is-file draft ts all f =
     record {
       dev = omega (arith, dev.1);
       inode = omega (arith, inode.1);
-      path = is-text ts 4 6 all count (omega arith) texts.0;
-      name = is-text ts 5 6 all count (omega arith) texts.1;
+      path = is-text ts 4 all (omega (arith, count)) texts.0;
+      name = is-text ts 5 all (omega (arith, count)) texts.1;
     }
 
 file-setup : (draft : Draft) (ts : List (List ℕ)) → AllByRecursion IsToken ts → IsDraft draft → HasNone (file_faults draft ts)
@@ -140,7 +145,7 @@ file-sound draft after ts all d e =
     let files = draft.files ++ file_info ts ∷ [] in
     let ok = checked-ok (file_fault draft ts) (record draft { files = files }) after e in
     let f = none-there (file_faults draft ts) ok.0 in
-    subst IsDraft ok.1 (declared-sound draft draft.workers files d f.1.1.0 (file-setup draft ts all d f) d.script.none_old)
+    subst IsDraft ok.1 (declared-sound draft draft.workers files d f.1.1.0 (file-setup draft ts all d f))
 
 moments-push : (phases : List Phase) (current : Option Phase) (n : ℕ) → (is_some current ≡ false → phases ≡ [])
     → NeverFallsFrom 0 (map (λ (p : Phase). p.moment.0) (phases ++ option_to_list current)) → moment_of current ≤ n
@@ -175,7 +180,6 @@ phase-sound draft after ts d e =
     subst IsDraft ok.1 (record {
       script = record {
         setup = d.script.setup;
-        none_old = d.script.none_old;
         few_phases = rw (length-append (phases_of draft) (next ∷ [])) (omega (arith, line.room));
         few_calls = rw same d.script.few_calls;
         few_statuses = rw same d.script.few_statuses;

@@ -14,13 +14,13 @@ use Rattle.sid_core.specs.Call.{IsCall}
 use Rattle.sid_core.specs.Counting.{CountsFrom}
 use Rattle.sid_core.specs.Setup.{IsDeclared}
 use Rattle.sid_core.specs.Values.{IsU32, IsU64, IsState}
-use Rattle.sid_core.specs.Words.{read_state, read_lock_mode, read_glock_mode}
+use Rattle.sid_core.specs.Words.{read_word, read_state, read_lock_mode, read_glock_mode}
 use Rattle.worker_script.specs.declared.script.Planned.{Planned}
 use Rattle.worker_script.specs.declared.script.Phase.{Phase}
 use Rattle.worker_script.specs.declared.reason.Reason.{Reason}
 use Rattle.worker_script.specs.Text.{token}
 use Rattle.worker_script.specs.Values.{value, is_u32, is_u64}
-use Rattle.worker_script.specs.Words.{word_of, wait_of}
+use Rattle.worker_script.specs.Words.{wait_of, on_of}
 use Rattle.worker_script.specs.Options.{asked_in, flags_in}
 use Rattle.worker_script.specs.Script.{numbers_of, is_status_call, statuses_in, DiesLast, IsInScripts, IsStopInScripts, IsPlanned, IsPhase}
 use Rattle.worker_script.specs.Lines.{Draft, script_of, planned_in, judged, is_declared, with_planned, next_number}
@@ -115,7 +115,6 @@ call-sound draft worker call stop d line =
       script = record {
         setup = d.script.setup;
         few_phases = rw (length-step draft.phases draft.current planned) d.script.few_phases;
-        none_old = d.script.none_old;
         few_calls = rw (planned-more draft.phases draft.current planned some) (omega (arith, line.room));
         few_statuses = rw (all_calls-push draft.phases draft.current planned some, statuses-push (planned_in draft) planned) line.statuses;
         phases = phases-step draft worker call stop draft.current d line line.phase d.script.phases;
@@ -199,6 +198,10 @@ mapped : {A : Type 0} (P : Call → Type 0) (Q : A → Type 0) (f : A → Call) 
 mapped P Q f None all each = tt
 mapped P Q f (Some a) all each = each a all
 
+always : {A : Type 0} (P : Call → Type 0) (f : A → Call) (o : Option A) → ((a : A) → P (f a)) → IfSome (option_map f o) P
+always P f None each = tt
+always P f (Some a) each = each a
+
 both-mapped : {A B : Type 0} (P : Call → Type 0) (f : A → B → Call) (a : Option A) (b : Option B) → ((x : A) (y : B) → P (f x y)) → IfSome (both f a b) P
 both-mapped P f None b each = tt
 both-mapped P f (Some x) None each = tt
@@ -217,7 +220,7 @@ open-spelled draft count ts e =
     let f = none-there (open_faults draft (value (token 2 ts)) ts) e in
     mapped (IsSpelled draft word.Open) IsAsked (open_with (value (token 2 ts)) ts) (asked_in count ts) (asked-known count ts) (λ asked is. record {
       is_call = (is-declared draft.files (value (token 2 ts)) f.0, access-known (token 3 ts) f.1.0, share-known (token 4 ts) f.1.1.0, is.0, is.1);
-      in_scripts = refl;
+      in_scripts = tt;
       status = refl;
     })
 
@@ -237,7 +240,8 @@ call-spelled : (draft : Draft) (w : CallWord) (count : ℕ) (ts : List (List ℕ
 unfolding call_of
 call-spelled draft word.Open count ts numbers named e = open-spelled draft count ts e
 call-spelled draft word.Close count ts numbers named e = record { is_call = number32 (token 2 ts) numbers; in_scripts = tt; status = refl }
-call-spelled draft word.Delete count ts numbers named e = tt
+call-spelled draft word.Delete count ts numbers named e =
+    always (IsSpelled draft word.Delete) _ (on_of (token 3 ts)) (λ on. record { is_call = number32 (token 2 ts) numbers; in_scripts = tt; status = refl })
 call-spelled draft word.Ack count ts numbers named e =
     mapped (IsSpelled draft word.Ack) (λ state. IsState state.0) _ (read_state (token 3 ts)) (state-known (token 3 ts)) (λ state is.
     record { is_call = (number64 (token 2 ts) numbers, is); in_scripts = tt; status = refl })
@@ -265,13 +269,13 @@ pub call-line-sound : (draft after : Draft) (ts : List (List ℕ)) → IsDraft d
 unfolding call_line call_in
 call-line-sound draft after ts d e =
     let count = call_length ts in
-    let found = call-ok draft after ts (call_behind draft count ts (head draft (word_of (token 1 ts)) count ts)) e in
-    let behind = word-ok draft count ts (head draft (word_of (token 1 ts)) count ts) found.0 found.1 in
-    let headed = judged-ok (head_fault draft (word_of (token 1 ts)) count ts) (known (word_of (token 1 ts))) behind.0 behind.1 in
-    let is_word = known-ok (word_of (token 1 ts)) behind.0 headed.1 in
+    let found = call-ok draft after ts (call_behind draft count ts (head draft (read_word (token 1 ts)) count ts)) e in
+    let behind = word-ok draft count ts (head draft (read_word (token 1 ts)) count ts) found.0 found.1 in
+    let headed = judged-ok (head_fault draft (read_word (token 1 ts)) count ts) (known (read_word (token 1 ts))) behind.0 behind.1 in
+    let is_word = known-ok (read_word (token 1 ts)) behind.0 headed.1 in
     let tailed = judged-ok (open_fault draft behind.0 ts) (spelled draft ts (call_of behind.0 count ts)) found.0 behind.2 in
     let is = spelled-ok draft ts (call_of behind.0 count ts) found.0 tailed.1 in
-    let above : IsHead draft (Some behind.0) ts = subst (λ w. IsHead draft w ts) is_word (head-line draft (word_of (token 1 ts)) count ts headed.0) in
+    let above : IsHead draft (Some behind.0) ts = subst (λ w. IsHead draft w ts) is_word (head-line draft (read_word (token 1 ts)) count ts headed.0) in
     let call : IsSpelled draft behind.0 found.0 =
     subst (λ o. IfSome o (IsSpelled draft behind.0)) is.0 (call-spelled draft behind.0 count ts above.numbers above.named tailed.0) in
     let good : IsDraft (with_call draft (value (token 0 ts)) found.0 (planned_stop ts)) =

@@ -78,8 +78,9 @@ option-kept : (asked : Asked) (token : List ℕ) → IsAsked asked → IfSome (w
 unfolding with_option
 option-kept asked token is =
     either IsAsked (bytes_eq token (codes "overwrite")) _ _ (either IsAsked asked.overwrite None (Some (record asked { overwrite = true })) tt is)
+    (either IsAsked (bytes_eq token (codes "delete")) _ _ (either IsAsked asked.delete None (Some (record asked { delete = true })) tt is)
     (either IsAsked (bytes_eq (take 8 token) (codes "durable=")) _ _ (durable-kept asked (drop 8 token) is)
-    (either IsAsked (bytes_eq (take 6 token) (codes "lease=")) _ None (lease-kept asked (drop 6 token) is) tt))
+    (either IsAsked (bytes_eq (take 6 token) (codes "lease=")) _ None (lease-kept asked (drop 6 token) is) tt)))
 
 added : (there : Bool) (token : List ℕ) (asked : Option Asked) → IfSome asked IsAsked → IfSome (add_option there token asked) IsAsked
 added there token None is = tt
@@ -90,7 +91,8 @@ added false token (Some asked) is = is
 pub asked-known : (count : ℕ) (ts : List (List ℕ)) → IfSome (asked_in count ts) IsAsked
 unfolding asked_in
 asked-known count ts =
-    added (ltb 7 count) (token 7 ts) _ (added (ltb 6 count) (token 6 ts) _ (added (ltb 5 count) (token 5 ts) (Some no_options) (tt, omega arith)))
+    added (ltb 8 count) (token 8 ts) _
+    (added (ltb 7 count) (token 7 ts) _ (added (ltb 6 count) (token 6 ts) _ (added (ltb 5 count) (token 5 ts) (Some no_options) (tt, omega arith))))
 
 -- ---- the flags of a status call
 

@@ -64,7 +64,6 @@ unfolding IsDistinct
 nothing-draft = record {
   script = record {
     setup = record { few_workers = omega arith; few_files = omega arith; workers = tt; files = tt; pids_differ = tt; files_differ = tt };
-    none_old = tt;
     few_phases = omega arith;
     few_calls = omega arith;
     few_statuses = omega arith;

@@ -2,7 +2,7 @@
 use Rattle.std.specs.Prelude.{◌≡◌, ℕ, ◌+◌, true, false, List, [], ◌∷◌, ◌++◌, Option, Some, None, codes, refl}
 use Rattle.std.specs.Fmt.{digits}
 use Rattle.sid_core.specs.declared.call.Call.{Call}
-use Rattle.sid_core.specs.declared.call.Call.TheVariants.{OpenFile, Close, Ack, Lock, Unlock, Read, Write, GLock, GUnlock, Recv, Disconnect, Reconnect, Scavenge, Tidy, Status}
+use Rattle.sid_core.specs.declared.call.Call.TheVariants.{OpenFile, Close, Delete, Ack, Lock, Unlock, Read, Write, GLock, GUnlock, Recv, Disconnect, Reconnect, Scavenge, Tidy, Status}
 use Rattle.sid_core.specs.declared.call.Mode.TheVariants.{Shared, Exclusive}
 use Rattle.sid_core.specs.declared.call.Span.{Span}
 use Rattle.sid_core.specs.declared.outside.Point.{Point}
@@ -31,13 +31,13 @@ span = record { start = 0; length = 100 }
 
 abbrev opens : List Planned
 opens =
-    plan 1 1 (OpenFile 1 (record { 0 = 0x1F01FF }) (record { 0 = 7 }) (Some (record { key = 9; state = record { 0 = 3 } })) 60 true false) None
+    plan 1 1 (OpenFile 1 (record { 0 = 0x1F01FF }) (record { 0 = 7 }) (Some (record { key = 9; state = record { 0 = 3 } })) 60 true true) None
     ∷ plan 1 2 (OpenFile 1 (record { 0 = 3 }) (record { 0 = 0 }) None 0 false false) None
-    ∷ plan 1 3 (Ack 9 (record { 0 = 0 })) None ∷ plan 1 4 (Close 1) None ∷ []
+    ∷ plan 1 3 (Ack 9 (record { 0 = 0 })) None ∷ plan 1 4 (Delete 1 true) None ∷ plan 1 5 (Delete 1 false) None ∷ plan 1 6 (Close 1) None ∷ []
 
 abbrev locks : List Planned
 locks =
-    plan 1 5 (Lock 1 span Exclusive true) None ∷ plan 1 6 (Unlock 1 span) None ∷ plan 1 7 (Read 1 span) None ∷ plan 1 8 (Write 1 span) None
+    plan 1 7 (Lock 1 span Exclusive true) None ∷ plan 1 8 (Unlock 1 span) None ∷ plan 1 9 (Read 1 span) None ∷ plan 1 10 (Write 1 span) None
     ∷ plan 2 1 (GLock 18446744073709551615 Shared false) None ∷ plan 2 2 (GUnlock 5) None ∷ []
 
 abbrev others : List Planned
@@ -49,18 +49,18 @@ others =
 
 abbrev example : Script
 example = record {
-  setup = record { workers = worker 1 ∷ worker 2 ∷ []; files = file ∷ [] };
+  setup = record { workers = worker 1 ∷ record (worker 2) { old = true } ∷ []; files = file ∷ [] };
   phases = phase_at 0 opens ∷ phase_at 60 locks ∷ phase_at 60 others ∷ [];
 }
 
 abbrev example_text : List ℕ
 example_text =
-    codes "worker 1 101 1000 1 hostA data\n" ++ (codes "worker 2 102 1000 2 hostA data\n" ++ (codes "file 1 1 11 /srv/data a.txt\n"
-    ++ (codes "phase 0\n" ++ (codes "1 open 1 0x1f01ff rwd lease=9:RH durable=60 overwrite\n" ++ (codes "1 open 1 0x3 -\n" ++ (codes "1 ack 9 -\n" ++ (codes "1 close 1\n"
+    codes "worker 1 101 1000 1 hostA data\n" ++ (codes "worker 2 102 1000 2 hostA data old\n" ++ (codes "file 1 1 11 /srv/data a.txt\n"
+    ++ (codes "phase 0\n" ++ (codes "1 open 1 0x1f01ff rwd lease=9:RH durable=60 overwrite delete\n" ++ (codes "1 open 1 0x3 -\n" ++ (codes "1 ack 9 -\n" ++ (codes "1 delete 1 on\n" ++ (codes "1 delete 1 off\n" ++ (codes "1 close 1\n"
     ++ (codes "phase 60\n" ++ (codes "1 lock 1 0 100 x wait\n" ++ (codes "1 unlock 1 0 100\n" ++ (codes "1 read 1 0 100\n" ++ (codes "1 write 1 0 100\n"
     ++ (codes "2 glock 18446744073709551615 r now\n" ++ (codes "2 gunlock 5\n"
     ++ (codes "phase 60\n" ++ (codes "2 recv\n" ++ (codes "2 disconnect\n" ++ (codes "2 reconnect 1 2 9\n" ++ (codes "2 scavenge\n" ++ (codes "2 tidy\n"
-    ++ (codes "2 status\n" ++ (codes "2 status -L -B\n" ++ codes "2 status -S !commit\n"))))))))))))))))))))))
+    ++ (codes "2 status\n" ++ (codes "2 status -L -B\n" ++ codes "2 status -S !commit\n"))))))))))))))))))))))))
 
 example_is_written : script_text example ≡ example_text
 unfolding digits

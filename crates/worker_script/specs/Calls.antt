@@ -3,20 +3,20 @@ use Rattle.std.specs.Prelude.{ℕ, ◌-◌, Bool, true, false, not, ◌==◌, �
 use Rattle.std.specs.List.{list_any}
 use Rattle.std.specs.Option.{option_map}
 use Rattle.sid_core.specs.declared.call.Call.{Call}
-use Rattle.sid_core.specs.declared.call.Call.TheVariants.{OpenFile, Close, Ack, Lock, Unlock, Read, Write, GLock, GUnlock, Recv, Disconnect, Reconnect, Scavenge, Tidy, Status}
+use Rattle.sid_core.specs.declared.call.Call.TheVariants.{OpenFile, Close, Delete, Ack, Lock, Unlock, Read, Write, GLock, GUnlock, Recv, Disconnect, Reconnect, Scavenge, Tidy, Status}
 use Rattle.sid_core.specs.declared.call.Span.{Span}
 use Rattle.sid_core.specs.declared.outside.Point.{Point}
 use Rattle.sid_core.specs.declared.words.CallWord.{CallWord}
 use Rattle.sid_core.specs.declared.words.CallWord.TheVariants as word
 use Rattle.sid_core.specs.declared.limits.TheConstants.{MAX_CALLS, MAX_STATUS_CALLS}
-use Rattle.sid_core.specs.Words.{read_state, read_share, share_bits, read_lock_mode, read_glock_mode}
+use Rattle.sid_core.specs.Words.{read_word, read_state, read_share, share_bits, read_lock_mode, read_glock_mode}
 use Rattle.worker_script.specs.declared.asked.Asked.{Asked}
 use Rattle.worker_script.specs.declared.reason.Reason.{Reason}
 use Rattle.worker_script.specs.declared.reason.Reason.TheVariants as reason
 use Rattle.worker_script.specs.declared.script.Planned.{Planned}
 use Rattle.worker_script.specs.Text.{token}
 use Rattle.worker_script.specs.Values.{value, is_u32, is_u64, access}
-use Rattle.worker_script.specs.Words.{word_of, wait_of, stop_of}
+use Rattle.worker_script.specs.Words.{wait_of, on_of, stop_of}
 use Rattle.worker_script.specs.Options.{asked_in, flags_in, tables_of}
 use Rattle.worker_script.specs.Script.{statuses_in}
 use Rattle.worker_script.specs.Lines.{Draft, planned_in, first_fault, judged, is_declared, with_planned, next_number}
@@ -41,9 +41,9 @@ planned_stop ts = if has_stop ts then stop_of (last_token ts) else None
 
 -- a line with this word has so many tokens
 abbrev pub is_length : CallWord → ℕ → Bool
-is_length word.Open count = nat_le 5 count && nat_le count 8
+is_length word.Open count = nat_le 5 count && nat_le count 9
 is_length word.Close count = count == 3
-is_length word.Delete count = false
+is_length word.Delete count = count == 4
 is_length word.Ack count = count == 4
 is_length word.Lock count = count == 7
 is_length word.Unlock count = count == 5
@@ -65,7 +65,7 @@ are_span_numbers ts = is_u32 (token 2 ts) && is_u64 (token 3 ts) && is_u64 (toke
 abbrev pub are_numbers : CallWord → List (List ℕ) → Bool
 are_numbers word.Open ts = is_u32 (token 2 ts)
 are_numbers word.Close ts = is_u32 (token 2 ts)
-are_numbers word.Delete ts = false
+are_numbers word.Delete ts = is_u32 (token 2 ts)
 are_numbers word.Ack ts = is_u64 (token 2 ts)
 are_numbers word.Lock ts = are_span_numbers ts
 are_numbers word.Unlock ts = are_span_numbers ts
@@ -106,7 +106,7 @@ span_of ts = record { start = value (token 3 ts); length = value (token 4 ts) }
 
 abbrev pub open_with : ℕ → List (List ℕ) → Asked → Call
 open_with file ts asked = OpenFile file (record { 0 = unwrap_or (access (token 3 ts)) 0 })
-    (unwrap_or (read_share (token 4 ts)) (share_bits 0)) asked.lease asked.durable asked.overwrite false
+    (unwrap_or (read_share (token 4 ts)) (share_bits 0)) asked.lease asked.durable asked.overwrite asked.delete
 
 abbrev pub both : {A B C : Type 0} → (A → B → C) → Option A → Option B → Option C
 both f None b = None
@@ -114,11 +114,11 @@ both f (Some a) None = None
 both f (Some a) (Some b) = Some (f a b)
 
 -- The call that a line with this word and so many tokens spells, unless an option, a state, a mode, `now`
--- or `wait`, or a flag is wrong.
+-- or `wait`, `on` or `off`, or a flag is wrong.
 unfoldable pub call_of : CallWord → ℕ → List (List ℕ) → Option Call
 call_of word.Open count ts = option_map (open_with (value (token 2 ts)) ts) (asked_in count ts)
 call_of word.Close count ts = Some (Close (value (token 2 ts)))
-call_of word.Delete count ts = None
+call_of word.Delete count ts = option_map (λ on. Delete (value (token 2 ts)) on) (on_of (token 3 ts))
 call_of word.Ack count ts = option_map (λ state. Ack (value (token 2 ts)) state) (read_state (token 3 ts))
 call_of word.Lock count ts = both (λ mode wait. Lock (value (token 2 ts)) (span_of ts) mode wait) (read_lock_mode (token 5 ts)) (wait_of (token 6 ts))
 call_of word.Unlock count ts = Some (Unlock (value (token 2 ts)) (span_of ts))
@@ -193,7 +193,7 @@ call_behind draft count ts (Err fault) = Err fault
 
 -- the call that a call line spells, or the least reason for which the line is bad
 unfoldable pub call_in : Draft → List (List ℕ) → Result Call Reason
-call_in draft ts = call_behind draft (call_length ts) ts (head draft (word_of (token 1 ts)) (call_length ts) ts)
+call_in draft ts = call_behind draft (call_length ts) ts (head draft (read_word (token 1 ts)) (call_length ts) ts)
 
 abbrev pub planned_call : Draft → ℕ → Call → Option Point → Planned
 planned_call draft worker call stop = record { worker = worker; number = next_number draft worker; call = call; stop = stop }

@@ -1,7 +1,8 @@
 -- What each line of a script does, and what makes it bad.
-use Rattle.std.specs.Prelude.{ℕ, ◌+◌, ◌-◌, ◌^◌, Bool, false, not, cond, ◌==◌, ◌&&◌, nat_le, nat_lt, List, [], ◌∷◌, ◌++◌, length, Option, Some, None, is_some, Result, Ok, Err}
+use Rattle.std.specs.Prelude.{ℕ, ◌+◌, ◌-◌, ◌^◌, Bool, not, cond, ◌==◌, ◌&&◌, ◌||◌, nat_le, nat_lt, List, [], ◌∷◌, ◌++◌, length, Option, Some, None, is_some, Result, Ok, Err, codes}
 use Rattle.std.specs.List.{list_any}
 use Rattle.std.specs.Option.{option_to_list}
+use Rattle.std.specs.Str.{bytes_eq}
 use Rattle.sid_core.specs.declared.setup.WorkerInfo.{WorkerInfo}
 use Rattle.sid_core.specs.declared.setup.FileInfo.{FileInfo}
 use Rattle.sid_core.specs.declared.limits.TheConstants.{MAX_WORKERS, MAX_FILES, MAX_PHASES, MAX_MOMENT}
@@ -47,19 +48,20 @@ judged (Some fault) answer = Err fault
 abbrev pub checked : Option Reason → Draft → Result Draft Reason
 checked fault draft = judged fault (Ok draft)
 
--- `worker W PID UID GUID MACHINE SHARE`
+-- `worker W PID UID GUID MACHINE SHARE`, and `old` behind it where the worker is of an old release
 abbrev pub are_worker_numbers : List (List ℕ) → Bool
 are_worker_numbers ts = is_u32 (token 1 ts) && is_number 1 (2 ^ 32 - 1) (token 2 ts) && is_u32 (token 3 ts) && is_u64 (token 4 ts)
 
 abbrev pub worker_faults : Draft → List (List ℕ) → List (Reason × Bool)
 worker_faults draft ts =
-    (reason.WrongLength, not (length ts == 7))
+    (reason.WrongLength, not ((length ts == 7) || (length ts == 8)))
     ∷ (reason.WrongNumber, not (are_worker_numbers ts))
     ∷ (reason.LateDeclaration, is_some draft.current)
     ∷ (reason.NotNext, not (value (token 1 ts) == length draft.workers + 1))
     ∷ (reason.TooManyWorkers, nat_le MAX_WORKERS (length draft.workers))
     ∷ (reason.KnownPid, list_any (λ worker. worker.pid == value (token 2 ts)) draft.workers)
     ∷ (reason.LongText, not (is_short (token 5 ts) && is_short (token 6 ts)))
+    ∷ (reason.UnknownEnding, (length ts == 8) && not (bytes_eq (token 7 ts) (codes "old")))
     ∷ []
 
 unfoldable pub worker_fault : Draft → List (List ℕ) → Option Reason
@@ -72,7 +74,7 @@ worker_info ts = record {
   guid = value (token 4 ts);
   machine = token 5 ts;
   share = token 6 ts;
-  old = false;
+  old = length ts == 8;
 }
 
 unfoldable pub worker_line : Draft → List (List ℕ) → Result Draft Reason

@@ -8,14 +8,14 @@ use Rattle.sid_core.specs.declared.words.CallWord.{CallWord}
 use Rattle.sid_core.specs.declared.words.CallWord.TheVariants as word
 use Rattle.sid_core.specs.Words.{read_state, read_lock_mode, read_glock_mode}
 use Rattle.worker_script.specs.declared.numbered.Numbered.{Numbered}
-use Rattle.worker_script.specs.declared.numbered.Numbered.TheVariants.{Open, Close, Ack, Lock, Unlock, Read, Write, GLock, GUnlock, Recv, Disconnect, Reconnect, Scavenge, Tidy, Status}
+use Rattle.worker_script.specs.declared.numbered.Numbered.TheVariants.{Open, Close, Delete, Ack, Lock, Unlock, Read, Write, GLock, GUnlock, Recv, Disconnect, Reconnect, Scavenge, Tidy, Status}
 use Rattle.worker_script.specs.declared.reason.Reason.{Reason}
 use Rattle.worker_script.specs.declared.reason.Reason.TheVariants as reason
 use Rattle.worker_script.specs.declared.stop.Stop.{Stop}
 use Rattle.worker_script.specs.declared.stop.Stop.TheVariants.{Absent, At, Unknown}
 use Rattle.worker_script.specs.Text.{token}
 use Rattle.worker_script.specs.Values.{value}
-use Rattle.worker_script.specs.Words.{wait_of, stop_of}
+use Rattle.worker_script.specs.Words.{wait_of, on_of, stop_of}
 use Rattle.worker_script.specs.Options.{asked_in, flags_in, tables_of}
 use Rattle.worker_script.specs.Lines.{Draft, first_fault, judged, is_declared}
 use Rattle.worker_script.specs.Calls.{has_stop, last_token, are_numbers, span_of, both, open_with, open_faults, stop_fault}
@@ -39,7 +39,7 @@ point_of Unknown = None
 abbrev pub plain : CallWord → List (List ℕ) → Option Numbered
 plain word.Open ts = Some (Open (value (token 2 ts)))
 plain word.Close ts = Some (Close (value (token 2 ts)))
-plain word.Delete ts = None
+plain word.Delete ts = Some (Delete (value (token 2 ts)))
 plain word.Ack ts = Some (Ack (value (token 2 ts)))
 plain word.Lock ts = Some (Lock (value (token 2 ts)) (span_of ts))
 plain word.Unlock ts = Some (Unlock (value (token 2 ts)) (span_of ts))
@@ -73,6 +73,7 @@ names_nobody draft _ = false
 abbrev pub finished : Numbered → ℕ → List (List ℕ) → Option Call
 finished (Open file) count ts = option_map (open_with file ts) (asked_in count ts)
 finished (Close handle) count ts = Some (call.Close handle)
+finished (Delete handle) count ts = option_map (λ on. call.Delete handle on) (on_of (token 3 ts))
 finished (Ack key) count ts = option_map (λ state. call.Ack key state) (read_state (token 3 ts))
 finished (Lock handle span) count ts = both (λ mode wait. call.Lock handle span mode wait) (read_lock_mode (token 5 ts)) (wait_of (token 6 ts))
 finished (Unlock handle span) count ts = Some (call.Unlock handle span)

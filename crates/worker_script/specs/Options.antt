@@ -11,7 +11,7 @@ use Rattle.worker_script.specs.Values.{value, is_number, is_u64}
 use Rattle.sid_core.specs.Words.{lease_state, read_state}
 
 abbrev pub no_options : Asked
-no_options = record { lease = None; durable = 0; overwrite = false }
+no_options = record { lease = None; durable = 0; overwrite = false; delete = false }
 
 -- `durable=SECONDS`, once
 unfoldable pub with_durable : Asked → List ℕ → Option Asked
@@ -38,6 +38,7 @@ with_lease asked lease =
 unfoldable pub with_option : Asked → List ℕ → Option Asked
 with_option asked token =
     if bytes_eq token (codes "overwrite") then (if asked.overwrite then None else Some (record asked { overwrite = true }))
+    else if bytes_eq token (codes "delete") then (if asked.delete then None else Some (record asked { delete = true }))
     else if bytes_eq (take 8 token) (codes "durable=") then with_durable asked (drop 8 token)
     else if bytes_eq (take 6 token) (codes "lease=") then with_lease asked (drop 6 token)
     else None
@@ -47,10 +48,11 @@ abbrev pub add_option : Bool → List ℕ → Option Asked → Option Asked
 add_option there token None = None
 add_option there token (Some asked) = if there then with_option asked token else Some asked
 
--- The options stand from the sixth place to the eighth, in a line of so many tokens.
+-- The options stand from the sixth place to the ninth, in a line of so many tokens.
 unfoldable pub asked_in : ℕ → List (List ℕ) → Option Asked
 asked_in count ts =
-    add_option (nat_lt 7 count) (token 7 ts) (add_option (nat_lt 6 count) (token 6 ts) (add_option (nat_lt 5 count) (token 5 ts) (Some no_options)))
+    add_option (nat_lt 8 count) (token 8 ts)
+    (add_option (nat_lt 7 count) (token 7 ts) (add_option (nat_lt 6 count) (token 6 ts) (add_option (nat_lt 5 count) (token 5 ts) (Some no_options))))
 
 abbrev pub no_flags : Flags
 no_flags = record { shares = false; files = false; ranges = false }

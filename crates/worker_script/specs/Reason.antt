@@ -1,7 +1,7 @@
 -- The numbers of the reasons.
 use Rattle.std.specs.Prelude.{ℕ}
 use Rattle.worker_script.specs.declared.reason.Reason.{Reason}
-use Rattle.worker_script.specs.declared.reason.Reason.TheVariants.{NotPlain, UnknownLine, WrongLength, WrongNumber, LateDeclaration, NotNext, TooManyWorkers, TooManyFiles, TooManyPhases, TooManyCalls, TooManyStatuses, KnownPid, KnownPlace, LongText, EarlierMoment, NoPhase, UnknownWorker, UnknownCall, UnknownFile, WrongAccess, WrongShare, WrongOption, AfterStop, UnknownStop}
+use Rattle.worker_script.specs.declared.reason.Reason.TheVariants.{NotPlain, UnknownLine, WrongLength, WrongNumber, LateDeclaration, NotNext, TooManyWorkers, TooManyFiles, TooManyPhases, TooManyCalls, TooManyStatuses, KnownPid, KnownPlace, LongText, EarlierMoment, NoPhase, UnknownWorker, UnknownCall, UnknownFile, WrongAccess, WrongShare, WrongOption, AfterStop, UnknownStop, UnknownEnding}
 
 abbrev pub number_of : Reason → ℕ
 number_of NotPlain = 1
@@ -28,3 +28,4 @@ number_of WrongShare = 21
 number_of WrongOption = 22
 number_of AfterStop = 23
 number_of UnknownStop = 24
+number_of UnknownEnding = 25

@@ -2,12 +2,11 @@
 use Rattle.std.specs.Prelude.{◌≡◌, ℕ, ◌≤◌, Bool, true, false, not, ◌==◌, ◌&&◌, ◌||◌, cond, IsTrue, List, [], ◌∷◌, ◌++◌, length, map, Option, Some, None, is_some}
 use Rattle.std.specs.List.{AllByRecursion, flat_map, count_by}
 use Rattle.sid_core.specs.declared.call.Call.{Call}
-use Rattle.sid_core.specs.declared.call.Call.TheVariants.{OpenFile, Close, Delete, Ack, Lock, Unlock, Read, Write, GLock, GUnlock, Recv, Disconnect, Reconnect, Scavenge, Tidy, Status}
+use Rattle.sid_core.specs.declared.call.Call.TheVariants.{Status}
 use Rattle.sid_core.specs.declared.call.Tables.{Tables}
 use Rattle.sid_core.specs.declared.outside.Point.{Point}
 use Rattle.sid_core.specs.declared.outside.Point.TheVariants as point
 use Rattle.sid_core.specs.declared.setup.Setup.{Setup}
-use Rattle.sid_core.specs.declared.setup.WorkerInfo.{WorkerInfo}
 use Rattle.sid_core.specs.Values.{IsMoment}
 use Rattle.sid_core.specs.Setup.{IsSetup, IsDeclared}
 use Rattle.sid_core.specs.Call.{IsCallNumber, IsCall}
@@ -46,24 +45,10 @@ statuses_in calls = count_by (λ planned. is_status_call planned.call) calls
 abbrev pub can_choose : Tables → Bool
 can_choose tables = (tables.shares || tables.files) && (tables.files || not tables.ranges)
 
--- Scripts have no `delete` yet, as a call and as an option, and a `status` call chooses what its flags can.
+-- A `status` call chooses what its flags can. Scripts have all other calls.
 abbrev pub IsInScripts : Call → Type 0
-IsInScripts (OpenFile file access share lease durable overwrite delete) = delete ≡ false
-IsInScripts (Close handle) = Unit {0}
-IsInScripts (Delete handle on) = ⊥
-IsInScripts (Ack key state) = Unit {0}
-IsInScripts (Lock handle span mode wait) = Unit {0}
-IsInScripts (Unlock handle span) = Unit {0}
-IsInScripts (Read handle span) = Unit {0}
-IsInScripts (Write handle span) = Unit {0}
-IsInScripts (GLock key mode wait) = Unit {0}
-IsInScripts (GUnlock key) = Unit {0}
-IsInScripts Recv = Unit {0}
-IsInScripts Disconnect = Unit {0}
-IsInScripts (Reconnect worker call key) = Unit {0}
-IsInScripts Scavenge = Unit {0}
-IsInScripts Tidy = Unit {0}
 IsInScripts (Status tables) = IsTrue (can_choose tables)
+IsInScripts _ = Unit {0}
 
 -- Scripts have no `!mourn` yet.
 abbrev pub IsStopInScripts : Option Point → Type 0
@@ -86,12 +71,11 @@ pub record IsPhase (setup : Setup) (phase : Phase) : Type 0 where
   pub moment : IsMoment phase.moment.0
   pub calls : AllByRecursion (IsPlanned setup) phase.calls
 
--- No worker is of an old release. At most 10,000 phases with moments that don't fall, and at most 20,000 calls, 100 of them
+-- At most 10,000 phases with moments that don't fall, and at most 20,000 calls, 100 of them
 -- `status`. Each worker's are numbered 1, 2, 3 and so on over the whole script, and none comes after the one in which it is to
 -- die.
 pub record IsScript (script : Script) : Type 0 where
   pub setup : IsSetup script.setup
-  pub none_old : AllByRecursion (λ (worker : WorkerInfo). worker.old ≡ false) script.setup.workers
   pub few_phases : length script.phases ≤ MAX_PHASES
   pub few_calls : length (all_calls script.phases) ≤ MAX_CALLS
   pub few_statuses : statuses_in (all_calls script.phases) ≤ MAX_STATUS_CALLS

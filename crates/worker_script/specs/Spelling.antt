@@ -15,7 +15,7 @@ use Rattle.sid_core.specs.Words.{word_of, word_text, state_text, share_text, loc
 use Rattle.worker_script.specs.declared.script.Phase.{Phase}
 use Rattle.worker_script.specs.declared.script.Planned.{Planned}
 use Rattle.worker_script.specs.declared.script.Script.{Script}
-use Rattle.worker_script.specs.Words.{wait_text, stop_text}
+use Rattle.worker_script.specs.Words.{wait_text, on_text, stop_text}
 
 -- ---- the tokens of a line
 
@@ -46,9 +46,9 @@ span_tokens handle span = decimal handle ∷ decimal span.start ∷ decimal span
 -- what stands behind the call's word
 abbrev pub operands : Call → List (List ℕ)
 operands (OpenFile file access share lease durable overwrite delete) =
-    decimal file ∷ access_text access.0 ∷ share_text share.0 ∷ (lease_tokens lease ++ (durable_tokens durable ++ if_chosen overwrite (codes "overwrite")))
+    decimal file ∷ access_text access.0 ∷ share_text share.0 ∷ (lease_tokens lease ++ (durable_tokens durable ++ (if_chosen overwrite (codes "overwrite") ++ if_chosen delete (codes "delete"))))
 operands (Close handle) = decimal handle ∷ []
-operands (Delete handle on) = decimal handle ∷ []
+operands (Delete handle on) = decimal handle ∷ on_text on ∷ []
 operands (Ack key state) = decimal key ∷ state_text state.0 ∷ []
 operands (Lock handle span mode wait) = span_tokens handle span ++ (lock_text mode ∷ wait_text wait ∷ [])
 operands (Unlock handle span) = span_tokens handle span
@@ -76,7 +76,7 @@ call_tokens planned = call_front planned.worker planned.call ++ stop_tokens plan
 
 abbrev pub worker_tokens : ℕ → WorkerInfo → List (List ℕ)
 worker_tokens number worker =
-    codes "worker" ∷ decimal number ∷ decimal worker.pid ∷ decimal worker.uid ∷ decimal worker.guid ∷ worker.machine ∷ worker.share ∷ []
+    codes "worker" ∷ decimal number ∷ decimal worker.pid ∷ decimal worker.uid ∷ decimal worker.guid ∷ worker.machine ∷ worker.share ∷ if_chosen worker.old (codes "old")
 
 abbrev pub file_tokens : ℕ → FileInfo → List (List ℕ)
 file_tokens number file = codes "file" ∷ decimal number ∷ decimal file.dev ∷ decimal file.inode ∷ file.path ∷ file.name ∷ []

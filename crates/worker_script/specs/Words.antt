@@ -3,18 +3,6 @@ use Rattle.std.specs.Prelude.{ℕ, Bool, true, false, if◌then◌else◌, List,
 use Rattle.std.specs.Str.{bytes_eq}
 use Rattle.sid_core.specs.declared.outside.Point.{Point}
 use Rattle.sid_core.specs.declared.outside.Point.TheVariants as point
-use Rattle.sid_core.specs.declared.words.CallWord.{CallWord}
-use Rattle.sid_core.specs.declared.words.CallWord.TheVariants as word
-use Rattle.sid_core.specs.Words.{read_word}
-
--- Scripts have no `delete` yet.
-abbrev pub in_scripts : Option CallWord → Option CallWord
-in_scripts None = None
-in_scripts (Some word.Delete) = None
-in_scripts (Some word) = Some word
-
-unfoldable pub word_of : List ℕ → Option CallWord
-word_of token = in_scripts (read_word token)
 
 abbrev pub wait_text : Bool → List ℕ
 wait_text false = codes "now"
@@ -24,6 +12,16 @@ unfoldable pub wait_of : List ℕ → Option Bool
 wait_of token =
     if bytes_eq token (codes "now") then Some false
     else if bytes_eq token (codes "wait") then Some true
+    else None
+
+abbrev pub on_text : Bool → List ℕ
+on_text false = codes "off"
+on_text true = codes "on"
+
+unfoldable pub on_of : List ℕ → Option Bool
+on_of token =
+    if bytes_eq token (codes "off") then Some false
+    else if bytes_eq token (codes "on") then Some true
     else None
 
 -- Scripts have no `!mourn` yet.

@@ -6,6 +6,7 @@ pub(crate) struct Asked {
     pub lease: Option<LeaseAsk>,
     pub durable: u32,
     pub overwrite: bool,
+    pub delete: bool,
 }
 
 /// The flags of a status call, and of the command `smbstatus`: shares only (`-S`), files only (`-L`), and ranges too (`-B`).

@@ -14,7 +14,6 @@ use crate::numeral::number_u32;
 use crate::reader::Reader;
 use crate::reason::Reason;
 use crate::stop::{Stop, split_stop};
-use crate::word::word_of;
 use sid_core::{Call, CallWord, MAX_CALLS, MAX_STATUS_CALLS};
 
 /// What is read of a call line before its call: its worker, and the numbers behind its word, where it has one.
@@ -145,7 +144,7 @@ impl Reader {
         ensures declared { IfOk result (λ found. found.0 ≤ length self.now.workers) }
     {
         let (count, stop) = split_stop(line);
-        let head = self.head(word_of(line.token(1)), count, line)?;
+        let head = self.head(CallWord::read(line.token(1)), count, line)?;
         let Some(numbered) = head.numbered else {
             return Err(Reason::UnknownCall);
         };

@@ -9,7 +9,7 @@ use crate::numbered::Numbered;
 use crate::options::{asked_in, flags_in, tables_of};
 use crate::reader::Reader;
 use crate::reason::Reason;
-use crate::word::wait_of;
+use crate::word::{on_of, wait_of};
 use sid_core::{Access, Call, LeaseState, Mode, Share, Span};
 
 fn lock_call(handle: u32, span: Span, count: usize, line: &Line<'_>) -> Result<Call, Reason>
@@ -46,6 +46,15 @@ fn ack_call(key: u64, count: usize, line: &Line<'_>) -> Result<Call, Reason>
 {
     match LeaseState::read(line.token(3)) {
         Some(state) => Ok(Call::Ack { key, state }),
+        None => Err(Reason::WrongOption),
+    }
+}
+
+fn delete_call(handle: u32, count: usize, line: &Line<'_>) -> Result<Call, Reason>
+    ensures { result ≡ or_wrong_option (finished (Numbered.Delete handle) count line.now) }
+{
+    match on_of(line.token(3)) {
+        Some(on) => Ok(Call::Delete { handle, on }),
         None => Err(Reason::WrongOption),
     }
 }
@@ -90,7 +99,7 @@ impl Reader {
             lease: asked.lease,
             durable: asked.durable,
             overwrite: asked.overwrite,
-            delete: false,
+            delete: asked.delete,
         })
     }
 
@@ -106,6 +115,7 @@ impl Reader {
         match numbered {
             Numbered::Open { file } => self.open_call(file, count, line),
             Numbered::Close { handle } => Ok(Call::Close { handle }),
+            Numbered::Delete { handle } => delete_call(handle, count, line),
             Numbered::Ack { key } => ack_call(key, count, line),
             Numbered::Lock { handle, span } => lock_call(handle, span, count, line),
             Numbered::Unlock { handle, span } => Ok(Call::Unlock { handle, span }),

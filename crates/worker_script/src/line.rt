@@ -5,8 +5,8 @@ ghost use Rattle.worker_script.specs.Calls.{last_token};
 use crate::text::first_part;
 use std::marker::Model;
 
-/// A line that was split once. Contracts see all its tokens. The first nine are kept, which is the most that a line may have,
-/// and the last.
+/// A line that was split once. Contracts see all its tokens. The first nine are kept, which is the most that a line may have
+/// beside a stop, and the last.
 #[derive(Drop)]
 pub(crate) struct Line<'a> {
     text: &'a [u8],

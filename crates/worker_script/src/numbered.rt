@@ -13,6 +13,7 @@ use sid_core::{CallWord, Span};
 pub(crate) enum Numbered {
     Open { file: u32 },
     Close { handle: u32 },
+    Delete { handle: u32 },
     Ack { key: u64 },
     Lock { handle: u32, span: Span },
     Unlock { handle: u32, span: Span },
@@ -33,10 +34,9 @@ fn is_length(word: CallWord, count: usize) -> bool
     ensures { result ≡ is_length word count }
 {
     match word {
-        CallWord::Open => 5 <= count && count <= 8,
-        CallWord::Delete => false,
+        CallWord::Open => 5 <= count && count <= 9,
         CallWord::Close | CallWord::GUnlock => count == 3,
-        CallWord::Ack => count == 4,
+        CallWord::Delete | CallWord::Ack => count == 4,
         CallWord::Lock => count == 7,
         CallWord::Unlock
         | CallWord::Read
@@ -93,7 +93,7 @@ fn numbers_behind(word: CallWord, line: &Line<'_>) -> Option<Numbered>
     match word {
         CallWord::Open => number_u32(line.token(2)).map(|file| Numbered::Open { file }),
         CallWord::Close => number_u32(line.token(2)).map(|handle| Numbered::Close { handle }),
-        CallWord::Delete => None,
+        CallWord::Delete => number_u32(line.token(2)).map(|handle| Numbered::Delete { handle }),
         CallWord::Ack => number_u64(line.token(2)).map(|key| Numbered::Ack { key }),
         CallWord::Lock => {
             span_numbers(line).map(|(handle, span)| Numbered::Lock { handle, span })

@@ -63,6 +63,14 @@ fn with_option(asked: Asked, token: &[u8]) -> Option<Asked>
             overwrite: true,
             ..asked
         })
+    } else if token == b"delete".as_slice() {
+        if asked.delete {
+            return None;
+        }
+        Some(Asked {
+            delete: true,
+            ..asked
+        })
     } else if front(8, token) == b"durable=".as_slice() {
         with_durable(asked, behind(8, token))
     } else if front(6, token) == b"lease=".as_slice() {
@@ -92,10 +100,12 @@ pub(crate) fn asked_in(count: usize, line: &Line<'_>) -> Option<Asked>
         lease: None,
         durable: 0,
         overwrite: false,
+        delete: false,
     };
     let one = option_at(5, count, line, none)?;
     let two = option_at(6, count, line, one)?;
-    option_at(7, count, line, two)
+    let three = option_at(7, count, line, two)?;
+    option_at(8, count, line, three)
 }
 
 /// These flags with one more, where the token is one. Each stands at most once, and `-S` not with `-L`.

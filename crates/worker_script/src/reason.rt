@@ -38,16 +38,18 @@ pub enum Reason {
     UnknownFile,
     WrongAccess,
     WrongShare,
-    /// An option, a state, a mode, `now` or `wait`, or a flag is wrong or repeated.
+    /// An option, a state, a mode, `now` or `wait`, `on` or `off`, or a flag is wrong or repeated.
     WrongOption,
     /// Its worker had its stop in an earlier line.
     AfterStop,
     /// Its stop is none of the five.
     UnknownStop,
+    /// It declares a worker, and the token behind the share isn't `old`.
+    UnknownEnding,
 }
 
 impl Reason {
-    /// From 1 to 24.
+    /// From 1 to 25.
     pub fn number(self) -> u32
         ensures { result ≡ number_of self }
     {
@@ -76,6 +78,7 @@ impl Reason {
             Reason::WrongOption => 22,
             Reason::AfterStop => 23,
             Reason::UnknownStop => 24,
+            Reason::UnknownEnding => 25,
         }
     }
 }

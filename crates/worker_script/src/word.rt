@@ -1,18 +1,7 @@
 ghost use Rattle.std.specs.Prelude.{◌≡◌};
-ghost use Rattle.worker_script.specs.Words.{word_of, wait_of, stop_of};
+ghost use Rattle.worker_script.specs.Words.{wait_of, on_of, stop_of};
 
-use sid_core::{CallWord, Point};
-
-/// The call word that a token is. Scripts have no `delete` yet.
-#[tactic(auto, unfolding(crate::specs::Words::word_of))]
-pub(crate) fn word_of(token: &[u8]) -> Option<CallWord>
-    ensures { result ≡ word_of token.now }
-{
-    match CallWord::read(token) {
-        Some(CallWord::Delete) => None,
-        other => other,
-    }
-}
+use sid_core::Point;
 
 /// Whether a call waits.
 #[tactic(auto, unfolding(crate::specs::Words::wait_of))]
@@ -22,6 +11,20 @@ pub(crate) fn wait_of(token: &[u8]) -> Option<bool>
     if token == b"now".as_slice() {
         Some(false)
     } else if token == b"wait".as_slice() {
+        Some(true)
+    } else {
+        None
+    }
+}
+
+/// Whether a file is to go, or to stay.
+#[tactic(auto, unfolding(crate::specs::Words::on_of))]
+pub(crate) fn on_of(token: &[u8]) -> Option<bool>
+    ensures { result ≡ on_of token.now }
+{
+    if token == b"off".as_slice() {
+        Some(false)
+    } else if token == b"on".as_slice() {
         Some(true)
     } else {
         None

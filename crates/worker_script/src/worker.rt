@@ -14,7 +14,7 @@ use crate::reason::Reason;
 use crate::text::{is_short, text};
 use sid_core::{MAX_WORKERS, WorkerInfo};
 
-/// The numbers of a line `worker W PID UID GUID MACHINE SHARE`.
+/// The numbers of a line `worker W PID UID GUID MACHINE SHARE`, which may end with `old`.
 #[derive(Clone, Copy)]
 pub(crate) struct WorkerNumbers {
     pub worker: u32,
@@ -49,7 +49,7 @@ impl Reader {
         ensures room { OnOk result (length self.now.workers < MAX_WORKERS) }
         ensures no_phase { OnOk result (is_none self.now.current ≡ true) }
     {
-        if line.len() != 7 {
+        if line.len() != 7 && line.len() != 8 {
             return Err(Reason::WrongLength);
         }
         let Some(numbers) = worker_numbers(line) else {
@@ -70,6 +70,9 @@ impl Reader {
         if !(is_short(line.token(5)) && is_short(line.token(6))) {
             return Err(Reason::LongText);
         }
+        if line.len() == 8 && line.token(7) != b"old".as_slice() {
+            return Err(Reason::UnknownEnding);
+        }
         Ok(numbers)
     }
 
@@ -87,7 +90,7 @@ impl Reader {
             guid: numbers.guid,
             machine,
             share,
-            old: false,
+            old: line.len() == 8,
         })?;
         self.tallies.push(Tally {
             made: 0,

@@ -20,7 +20,7 @@ returns c =
     by_name lease.file lease c.args.state c.break_by_owner.result
     ∙ ap (λ (l : LeaseRow). breaks_if_any lease.file l c.break_by_owner.result) (sym c.acknowledged.ensures)
     ∙ c.break_by_owner.ensures
-    ∙ ap (λ (l : LeaseRow). break_by_owner lease.file c.owner_under-to.result needed l l.breaking) c.acknowledged.ensures
-    ∙ ap (λ to. break_by_owner lease.file to needed then then.breaking)
+    ∙ ap (λ (l : LeaseRow). break_by_owner c.args.now lease.file c.owner_under-to.result needed l l.breaking) c.acknowledged.ensures
+    ∙ ap (λ to. break_by_owner c.args.now lease.file to needed then then.breaking)
     (c.owner_under-to.ensures ∙ (λ i. owner_under (c.as_slice.ensures i) (c.as_slice-2.ensures i) lease.file lease.name))
-    ∙ break_is c.args.table.now lease.file needed then
+    ∙ break_is c.args.now c.args.table.now lease.file needed then

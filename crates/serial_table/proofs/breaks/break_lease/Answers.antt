@@ -8,13 +8,13 @@ use Rattle.serial_table.specs.Alone.{shown, breaks_of, owner_under}
 use Rattle.serial_table.proofs.Broken.{break_is}
 use Rattle.serial_table.proofs.breaks.break_lease.Goals as goal
 
-same : (c : goal.After-make) → breaks_if_any c.args.file c.args.lease.now c.break_by_owner.result ≡ break_lease c.args.file (shown c.args.file c.args.rows.now) c.args.kept.0 c.args.lease.now
+same : (c : goal.After-make) → breaks_if_any c.args.file c.args.lease.now c.break_by_owner.result ≡ break_lease c.args.now c.args.file (shown c.args.file c.args.rows.now) c.args.kept.0 c.args.lease.now
 same c =
     let lease = c.args.lease.now in
     c.break_by_owner.ensures
-    ∙ ap (λ to. break_by_owner c.args.file to c.args.kept.0 lease lease.breaking)
+    ∙ ap (λ to. break_by_owner c.args.now c.args.file to c.args.kept.0 lease lease.breaking)
     (c.owner_under-to.ensures ∙ (λ i. owner_under (c.as_slice.ensures.value i) (c.as_slice-2.ensures.value i) c.args.file lease.name))
-    ∙ break_is (table_of c.args.rows.now) c.args.file c.args.kept.0 lease
+    ∙ break_is c.args.now (table_of c.args.rows.now) c.args.file c.args.kept.0 lease
 
 pub returns-clause-done : goal.returns-clause-done
 returns-clause-done c = on_ok_weaker c.make.result (λ h. h ∙ ap (both (breaks_of c.args.done.now)) (same c)) c.make.ensures.done

@@ -8,6 +8,6 @@ pub returns-clause-done : goal.returns-clause-done
 returns-clause-done c =
     on_ok_weaker c.break_each.result
     (λ h. h
-    ∙ ap (λ names. both (breaks_of c.args.done.now) (break_each c.args.file (shown c.args.file c.args.rows.now) c.args.kept.0 names))
+    ∙ ap (λ names. both (breaks_of c.args.done.now) (break_each c.args.now c.args.file (shown c.args.file c.args.rows.now) c.args.kept.0 names))
     (c.as_slice.ensures.value ∙ (c.drop_own.ensures ∙ ap (filter (λ name. not (is_own c.args.own name))) c.in_ok-names.ensures)))
     c.break_each.ensures.done

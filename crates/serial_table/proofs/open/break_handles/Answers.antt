@@ -11,12 +11,12 @@ returns-clause-made c =
     let file = c.args.asked.now.file in
     let f = shown file c.args.rows.now in
     c.in_ok-break_each.ensures.done
-    ∙ ap (λ done. both done (break_each file f all_but_handle c.as_slice.result.now)) c.no_break-done.ensures
-    ∙ ap (λ names. both no_break (break_each file f all_but_handle names)) (c.as_slice.ensures.value ∙ c.in_ok-names.ensures)
+    ∙ ap (λ done. both done (break_each c.args.asked.now.moment file f all_but_handle c.as_slice.result.now)) c.no_break-done.ensures
+    ∙ ap (λ names. both no_break (break_each c.args.asked.now.moment file f all_but_handle names)) (c.as_slice.ensures.value ∙ c.in_ok-names.ensures)
 
 pub returns-clause-rows : goal.returns-clause-rows
 unfolding handle_breaks
 returns-clause-rows c =
     let file = c.args.asked.now.file in
     let f = shown file c.args.rows.now in
-    c.in_ok-break_each.ensures.rows ∙ ap (λ names. perform_all_in_file (break_each file f all_but_handle names).changes f) (c.as_slice.ensures.value ∙ c.in_ok-names.ensures)
+    c.in_ok-break_each.ensures.rows ∙ ap (λ names. perform_all_in_file (break_each c.args.asked.now.moment file f all_but_handle names).changes f) (c.as_slice.ensures.value ∙ c.in_ok-names.ensures)

@@ -10,18 +10,18 @@ use Rattle.serial_table.proofs.Broken.{both-no_break}
 use Rattle.serial_table.proofs.open.break_other_leases.Goals as goal
 
 by_test : (f : FileView) (asked : Asked) (b : Bool) → b ≡ (is_stat asked.access && not asked.overwrite)
-    → cond b no_break (break_others asked.file f (cond asked.overwrite none_of_them all_but_write) asked.lease) ≡ other_breaks f asked
+    → cond b no_break (break_others asked.moment asked.file f (cond asked.overwrite none_of_them all_but_write) asked.lease) ≡ other_breaks f asked
 unfolding other_breaks
-by_test f asked b e = ap (λ b. cond b no_break (break_others asked.file f (cond asked.overwrite none_of_them all_but_write) asked.lease)) e
+by_test f asked b e = ap (λ b. cond b no_break (break_others asked.moment asked.file f (cond asked.overwrite none_of_them all_but_write) asked.lease)) e
 
 none : (c : goal.Then-breaks_nothing) → no_break ≡ other_breaks (shown c.args.asked.now.file c.args.rows.now) c.args.asked.now
 none c = by_test (shown c.args.asked.now.file c.args.rows.now) c.args.asked.now true (sym c.if-breaks_nothing.true ∙ c.breaks_nothing.ensures)
 
-others : (c : goal.After-break_others) → break_others c.args.asked.now.file (shown c.args.asked.now.file c.args.rows.now) c.kept_beside.result.0 c.args.asked.now.lease ≡ other_breaks (shown c.args.asked.now.file c.args.rows.now) c.args.asked.now
+others : (c : goal.After-break_others) → break_others c.args.asked.now.moment c.args.asked.now.file (shown c.args.asked.now.file c.args.rows.now) c.kept_beside.result.0 c.args.asked.now.lease ≡ other_breaks (shown c.args.asked.now.file c.args.rows.now) c.args.asked.now
 others c =
     let asked = c.args.asked.now in
     let f = shown asked.file c.args.rows.now in
-    ap (λ kept. break_others asked.file f kept asked.lease) c.kept_beside.ensures ∙ by_test f asked false (sym c.if-breaks_nothing.false ∙ c.breaks_nothing.ensures)
+    ap (λ kept. break_others asked.moment asked.file f kept asked.lease) c.kept_beside.ensures ∙ by_test f asked false (sym c.if-breaks_nothing.false ∙ c.breaks_nothing.ensures)
 
 pub returns-then-breaks_nothing-clause-done : goal.returns-then-breaks_nothing-clause-done
 returns-then-breaks_nothing-clause-done c = sym (both-no_break (breaks_of c.args.done.now)) ∙ ap (both (breaks_of c.args.done.now)) (none c)

@@ -9,10 +9,10 @@ pub returns-in-Some : goal.returns-in-Some
 unfolding write
 returns-in-Some c =
     let found = head_found (is_of_handle c.args.caller.now.sid c.args.handle) c.args.table.now.opens c.in-Some.row (sym c.in-Some.ensures) in
-    IfOk-weaker c.write_file.result _ _ (λ _ h. h ∙ ap (write_first (view c.args.table.now) c.args.span) (sym found.1)) c.write_file.ensures
+    IfOk-weaker c.write_file.result _ _ (λ _ h. h ∙ ap (write_first c.args.caller.now.moment (view c.args.table.now) c.args.span) (sym found.1)) c.write_file.ensures
 
 pub returns-in-None : goal.returns-in-None
 unfolding write
 returns-in-None c =
     c.only_reply.ensures
-    ∙ ap (write_first (view c.args.table.now) c.args.span) (sym (none_found (is_of_handle c.args.caller.now.sid c.args.handle) c.args.table.now.opens (sym c.in-None.ensures)))
+    ∙ ap (write_first c.args.caller.now.moment (view c.args.table.now) c.args.span) (sym (none_found (is_of_handle c.args.caller.now.sid c.args.handle) c.args.table.now.opens (sym c.in-None.ensures)))

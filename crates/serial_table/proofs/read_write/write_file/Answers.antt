@@ -10,10 +10,10 @@ pub returns-in-Some : goal.returns-in-Some
 returns-in-Some c =
     let row = c.args.row.now in
     let f = file_view row.file (view c.args.table.now) in
-    c.only_reply.ensures ∙ sym (c.in-Some.ensures.some f (forbids_write row c.args.span) (written row (break_others row.file f none_of_them row.lease)))
+    c.only_reply.ensures ∙ sym (c.in-Some.ensures.some f (forbids_write row c.args.span) (written row (break_others c.args.now row.file f none_of_them row.lease)))
 
 pub returns-in-None : goal.returns-in-None
 returns-in-None c =
     let row = c.args.row.now in
     let f = file_view row.file (view c.args.table.now) in
-    IfOk-weaker c.write_among.result _ _ (λ _ h. h ∙ sym (c.in-None.ensures.none f (forbids_write row c.args.span) (written row (break_others row.file f none_of_them row.lease)))) c.write_among.ensures
+    IfOk-weaker c.write_among.result _ _ (λ _ h. h ∙ sym (c.in-None.ensures.none f (forbids_write row c.args.span) (written row (break_others c.args.now row.file f none_of_them row.lease)))) c.write_among.ensures

@@ -7,7 +7,7 @@ use Rattle.chain_map.specs.Laid.{laid}
 use Rattle.chain_map.proofs.Order.{IsRising-put}
 use Rattle.chain_map.proofs.Place.{pair_at_from}
 use Rattle.chain_map.proofs.Homes.{put_home, IsFilled-set, has_pairs-put}
-use Rattle.chain_map.proofs.Over.{laid_moved}
+use Rattle.chain_map.proofs.Laid.{laid_moved}
 use Rattle.chain_map.proofs.base.Base.take_in.Goals as goal
 
 -- the leaf is the home of the pair's key

@@ -1,7 +1,7 @@
 use Rattle.std.proofs.Common.{subst}
 use Rattle.chain_map.specs.Pairs.{IsRising}
 use Rattle.chain_map.proofs.Each.{IsRising-each}
-use Rattle.chain_map.proofs.Over.{IsRising-laid}
+use Rattle.chain_map.proofs.Laid.{IsRising-laid}
 use Rattle.chain_map.proofs.chain.Chain.entries.Goals as goal
 
 pub returns-clause-rising : goal.returns-clause-rising

@@ -4,7 +4,7 @@ use Rattle.chain_map.specs.Pairs.{IsRising, find}
 use Rattle.chain_map.specs.Leaves.{joined}
 use Rattle.chain_map.specs.Marks.{kept_each}
 use Rattle.chain_map.proofs.Each.{IsRising-each}
-use Rattle.chain_map.proofs.Over.{find_over, find_under, IsRising-laid}
+use Rattle.chain_map.proofs.Laid.{find_over, find_under, IsRising-laid}
 use Rattle.chain_map.proofs.chain.Chain.find.Goals as goal
 
 pub returns-in-Some-clause-value : goal.returns-in-Some-clause-value

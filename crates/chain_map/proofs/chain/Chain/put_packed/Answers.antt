@@ -4,7 +4,7 @@ use Rattle.chain_map.specs.Leaves.{joined}
 use Rattle.chain_map.specs.Marks.{kept_each}
 use Rattle.chain_map.specs.Laid.{leaves_of, shown}
 use Rattle.chain_map.proofs.Each.{IsRising-each}
-use Rattle.chain_map.proofs.Over.{laid_put}
+use Rattle.chain_map.proofs.Laid.{laid_put}
 use Rattle.chain_map.proofs.chain.Chain.put_packed.Goals as goal
 
 pub returns-clause-ok : goal.returns-clause-ok

@@ -5,7 +5,7 @@ use Rattle.chain_map.specs.Leaves.{joined}
 use Rattle.chain_map.specs.Marks.{kept_each}
 use Rattle.chain_map.specs.Laid.{laid}
 use Rattle.chain_map.proofs.Each.{IsRising-each}
-use Rattle.chain_map.proofs.Over.{found_either, laid_without}
+use Rattle.chain_map.proofs.Laid.{found_either, laid_without}
 use Rattle.chain_map.proofs.chain.Chain.remove.Goals as goal
 
 pub returns-clause-found : goal.returns-clause-found

@@ -1,30 +1,54 @@
-use Rattle.std.proofs.Common.{◌∙◌, sym, ap, subst}
-use Rattle.std.specs.List.{list_all}
-use Rattle.serial_table.specs.declared.decision.Decision.{Decision}
+use Rattle.std.proofs.Common.{◌∙◌, sym, ap}
+use Rattle.std.proofs.lemmas.Result.{IfOk-weaker}
 use Rattle.serial_table.specs.View.{view}
 use Rattle.serial_table.specs.Settle.{settle}
-use Rattle.serial_table.specs.Decision.{settling}
 use Rattle.serial_table.specs.Decide.{decide}
-use Rattle.serial_table.specs.InPlace.{is_made, scope_of, AreEnough}
 use Rattle.serial_table.proofs.Concluding.{concluded_is_settled}
-use Rattle.serial_table.proofs.Scoped.{decided_made, decided_enough}
-use Rattle.serial_table.proofs.Calling.{conclude-reply}
+use Rattle.serial_table.proofs.Expiring.{copy_is, copy_settled, copy_lives, no_copy_is, behind_copy, behind_copy_reply, behind_copy_posts, settled_either}
 use Rattle.serial_table.proofs.table.Table.call.Goals as goal
 
-pub conclude_call-requires-clause-made : goal.conclude_call-requires-clause-made
-conclude_call-requires-clause-made c =
-    ap (λ (d : Decision). list_all is_made d.changes) c.in_ok-decision.ensures ∙ decided_made c.args.setup.now (view c.args.self.now) c.args.caller.now c.args.call c.requires.next
+pub call_behind-requires-clause-settled : goal.call_behind-requires-clause-settled
+call_behind-requires-clause-settled c =
+    let t = c.args.self.now in
+    let is = copy_is c.args.setup.now t c.args.caller.now c.args.call c.in_ok-behind.field-0 c.in-Some.behind c.in-Some.is c.in_ok-behind.ensures.some in
+    copy_settled c.args.setup.now t c.in-Some.behind c.args.caller.now c.args.call is c.requires.settled
 
-pub conclude_call-requires-clause-enough : goal.conclude_call-requires-clause-enough
-conclude_call-requires-clause-enough c =
-    subst (λ (d : Decision). AreEnough (scope_of c.args.call d.changes) (settling d) c.args.self.now) (sym c.in_ok-decision.ensures)
-    (decided_enough c.args.setup.now c.args.self.now c.args.caller.now c.args.call c.requires.settled)
+pub call_behind-requires-clause-lives : goal.call_behind-requires-clause-lives
+call_behind-requires-clause-lives c =
+    let t = c.args.self.now in
+    let is = copy_is c.args.setup.now t c.args.caller.now c.args.call c.in_ok-behind.field-0 c.in-Some.behind c.in-Some.is c.in_ok-behind.ensures.some in
+    copy_lives c.args.setup.now t c.in-Some.behind c.args.caller.now c.args.call is c.requires.lives
 
-pub returns-clause-reply : goal.returns-clause-reply
-returns-clause-reply c =
-    ap (λ (d : Decision). d.reply) c.in_ok-decision.ensures
-    ∙ sym (conclude-reply (view c.args.self.now) (decide c.args.setup.now (view c.args.self.now) c.args.caller.now c.args.call))
+pub returns-in_ok-answer-in-Some-clause-changed : goal.returns-in_ok-answer-in-Some-clause-changed
+returns-in_ok-answer-in-Some-clause-changed c =
+    let t = c.args.self.now in
+    let is = copy_is c.args.setup.now t c.args.caller.now c.args.call c.in_ok-behind.field-0 c.in-Some.behind c.in-Some.is c.in_ok-behind.ensures.some in
+    c.in_ok-answer-in-Some.ensures.changed ∙ sym (behind_copy c.args.setup.now t c.in-Some.behind c.args.caller.now c.args.call is)
 
-pub returns-clause-settled : goal.returns-clause-settled
-returns-clause-settled c =
-    ap settle c.in_ok-posts.ensures.table ∙ concluded_is_settled c.in_ok-decision.decision c.args.self.now ∙ sym c.in_ok-posts.ensures.table
+pub returns-in_ok-answer-in-Some-clause-reply : goal.returns-in_ok-answer-in-Some-clause-reply
+returns-in_ok-answer-in-Some-clause-reply c =
+    let t = c.args.self.now in
+    let is = copy_is c.args.setup.now t c.args.caller.now c.args.call c.in_ok-behind.field-0 c.in-Some.behind c.in-Some.is c.in_ok-behind.ensures.some in
+    c.in_ok-answer-in-Some.ensures.reply ∙ sym (behind_copy_reply c.args.setup.now t c.in-Some.behind c.args.caller.now c.args.call is)
+
+pub returns-in_ok-answer-in-Some-clause-posts : goal.returns-in_ok-answer-in-Some-clause-posts
+returns-in_ok-answer-in-Some-clause-posts c =
+    let t = c.args.self.now in
+    let is = copy_is c.args.setup.now t c.args.caller.now c.args.call c.in_ok-behind.field-0 c.in-Some.behind c.in-Some.is c.in_ok-behind.ensures.some in
+    c.in_ok-answer-in-Some.ensures.posts ∙ sym (behind_copy_posts c.args.setup.now t c.in-Some.behind c.args.caller.now c.args.call is)
+
+pub returns-in_ok-answer-in-Some-clause-settled : goal.returns-in_ok-answer-in-Some-clause-settled
+returns-in_ok-answer-in-Some-clause-settled c =
+    let done = c.in_ok-answer-in-Some.ensures.changed in
+    ap settle done ∙ concluded_is_settled (decide c.args.setup.now (view c.in-Some.behind) c.args.caller.now c.args.call) c.in-Some.behind ∙ sym done
+
+pub returns-in-None-clause-reply : goal.returns-in-None-clause-reply
+returns-in-None-clause-reply c =
+    let t = c.args.self.now in
+    let is = no_copy_is c.args.setup.now t c.args.caller.now c.args.call c.in_ok-behind.field-0 c.in-None.is c.in_ok-behind.ensures.none in
+    IfOk-weaker c.call_behind-in-None.result _ _ (λ _ h. h ∙ sym (behind_copy_reply c.args.setup.now t t c.args.caller.now c.args.call is)) c.call_behind-in-None.ensures.reply
+
+pub returns-in-None-clause-settled : goal.returns-in-None-clause-settled
+returns-in-None-clause-settled c =
+    let t = c.args.self.now in
+    settled_either c.call_behind-in-None.result (decide c.args.setup.now (view t) c.args.caller.now c.args.call) t c.call_behind-in-None.new.self c.call_behind-in-None.ensures.changed c.call_behind-in-None.ensures.err c.requires.settled

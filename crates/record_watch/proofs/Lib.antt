@@ -1,0 +1,2 @@
+pub mod Boxes
+mod WatchExamples

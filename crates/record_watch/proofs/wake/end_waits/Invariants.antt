@@ -1,0 +1,7 @@
+use Rattle.std.proofs.Common.{map, take}
+use Rattle.record_watch.specs.Watches.{watch_row}
+use Rattle.record_watch.specs.Mails.{without_waits, ChangesEach}
+use Rattle.record_watch.proofs.wake.end_waits.Given as goal
+
+abbrev pub invariant-loop-watch : goal.invariant-loop-watch
+invariant-loop-watch l = ChangesEach (without_waits (map watch_row (take l.watch-index l.watches))) l.fn.mails l.mails

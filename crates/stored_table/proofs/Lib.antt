@@ -1,0 +1,17 @@
+pub mod Writing
+pub mod Forming
+pub mod Bridging
+pub mod Versions
+pub mod Files
+pub mod Keeping
+pub mod Whole
+pub mod Meeting
+pub mod Locality
+pub mod Starting
+pub mod Sweeping
+pub mod Spelling
+pub mod Telling
+pub mod Samples
+pub mod DeadOwnerExamples
+pub mod TakenOverExamples
+pub mod HistoryExamples

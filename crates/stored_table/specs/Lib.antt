@@ -1,0 +1,11 @@
+pub mod Keys
+pub mod Places
+pub mod Decoded
+pub mod Exact
+pub mod Met
+pub mod Footprint
+pub mod Move
+pub mod Moved
+pub mod Shown
+pub mod Stands
+pub mod Histories
