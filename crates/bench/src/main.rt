@@ -1,10 +1,11 @@
-//! Works on chains and records over and over, so that a profiler can tell what a call costs. Each line of the input has
-//! an operation, a size and how often it is done, and for a chain the order in which its keys came: `find 1250 100 random`
-//! or `pack 10 100`. Its answer is a sum that depends on what was done.
+//! Works on chains, records and tables over and over, so that a profiler can tell what a call costs. Each line of the input
+//! has an operation, a size and how often it is done, and for a chain the order in which its keys came: `find 1250 100
+//! random`, `pack 10 100` or `close 500 100`. Its answer is a sum that depends on what was done.
 #![tactic(auto)]
 
 mod chains;
 mod records;
+mod tables;
 
 use anyhow::{Context, Result};
 use chains::{ChainWork, Order};
@@ -27,6 +28,9 @@ fn answer(alloc: Global, line: &str) -> Result<u64> {
     let times = words.next().unwrap_or("").parse::<u32>().context("times")?;
     if let Some(work) = RecordWork::named(word) {
         return records::count(alloc, work, size, times);
+    }
+    if word == "close" {
+        return tables::count(alloc, size, times);
     }
     let work = ChainWork::named(word).context("no such operation")?;
     let order = Order::named(words.next().unwrap_or("")).context("no such order")?;
