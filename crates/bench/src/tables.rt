@@ -21,7 +21,11 @@ pub fn count(alloc: Global, others: u32, times: u32) -> Result<u64> {
         push_open(&mut table, call, 1)?;
     }
     for other in 1..=others {
-        push_open(&mut table, OPENS.saturating_add(other), other.saturating_add(1))?;
+        push_open(
+            &mut table,
+            OPENS.saturating_add(other),
+            other.saturating_add(1),
+        )?;
     }
     table.settle();
     close_often(&setup, &mut table, times)?;

@@ -94,7 +94,7 @@ both p q r same (x ∷ xs) =
 one_more : (ws : List Watch) (w : Watch) (q : ℕ) (m : MailRec) → without_waits (w ∷ []) q (without_waits ws q m) ≡ without_waits (ws ++ w ∷ []) q m
 one_more ws w q m = ap (λ ts. record m { tokens = ts })
     (both (still_waits ws (receiver q m)) (still_waits (w ∷ []) (receiver q m)) (still_waits (ws ++ w ∷ []) (receiver q m))
-      (λ t. list_all-append _ ws (w ∷ [])) m.tokens)
+    (λ t. list_all-append _ ws (w ∷ [])) m.tokens)
 
 composed : (ws : List Watch) (w : Watch) (q : ℕ) (o : Option MailRec) → option_map (without_waits (w ∷ []) q) (option_map (without_waits ws q) o) ≡ option_map (without_waits (ws ++ w ∷ []) q) o
 composed ws w q None = refl

@@ -36,7 +36,8 @@ pub fn counts_on(mails: &Mails, spot: Spot, watch: &WatchRec) -> bool
     ensures { result ≡ counts.watch_counts (mailed mails.now) spot watch.now }
 {
     match mails.get(watch.sid.pid) {
-        Some(mail) => mail.session == watch.sid.session && has_call_at(mail.tokens.as_slice(), spot, watch.call),
+        Some(mail) => mail.session == watch.sid.session
+            && has_call_at(mail.tokens.as_slice(), spot, watch.call),
         None => false,
     }
 }
@@ -45,7 +46,8 @@ fn counts_behind(mails: &Mails, watch: &WatchRec) -> bool
     ensures { result ≡ counts.register_watch_counts (mailed mails.now) watch.now }
 {
     match mails.get(watch.sid.pid) {
-        Some(mail) => mail.session == watch.sid.session && has_call(mail.tokens.as_slice(), watch.call),
+        Some(mail) => mail.session == watch.sid.session
+            && has_call(mail.tokens.as_slice(), watch.call),
         None => false,
     }
 }

@@ -7,6 +7,6 @@ pub returns-in-Some : goal.returns-in-Some
 returns-in-Some c =
     let f = c.get_mut.follows in
     on_ok_then c.add_letter.result _ _
-      (λ is. changed_at (with_letter c.args.post) c.args.mails.now (f.lender c.add_letter.new.mail) c.args.post.to.pid c.add_letter.new.mail c.in-Some.mail.now
-          (sym c.in-Some.ensures.value) is (on_some_at c.get_mut.result _ _ c.in-Some.is (f.holds c.add_letter.new.mail)) (not_to c.args.post))
-      c.add_letter.ensures
+    (λ is. changed_at (with_letter c.args.post) c.args.mails.now (f.lender c.add_letter.new.mail) c.args.post.to.pid c.add_letter.new.mail c.in-Some.mail.now
+    (sym c.in-Some.ensures.value) is (on_some_at c.get_mut.result _ _ c.in-Some.is (f.holds c.add_letter.new.mail)) (not_to c.args.post))
+    c.add_letter.ensures

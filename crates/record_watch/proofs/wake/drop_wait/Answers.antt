@@ -7,4 +7,4 @@ use Rattle.record_watch.proofs.wake.drop_wait.Goals as goal
 pub returns-else-mail-watch : goal.returns-else-mail-watch
 returns-else-mail-watch c =
     sym (not_its_session (watch_row c.args.watch.now) c.args.watch.now.sid.pid c.args.mail.now
-      (false_from_ne_true _ (λ e. c.if-mail-watch.false (eqb-true _ _ e))))
+    (false_from_ne_true _ (λ e. c.if-mail-watch.false (eqb-true _ _ e))))

@@ -7,5 +7,5 @@ use Rattle.record_watch.proofs.wake.wake_all.Goals as goal
 pub returns-clause-tokens : goal.returns-clause-tokens
 returns-clause-tokens c =
     let is : c.as_slice.result.now ≡ filter (watch_counts (mailed c.args.mails.now) c.args.spot) c.args.list.now =
-      c.as_slice.ensures.value ∙ c.keep_counted_on.ensures ∙ ap (filter (watch_counts (mailed c.args.mails.now) c.args.spot)) c.take-counted.ensures.taken in
+    c.as_slice.ensures.value ∙ c.keep_counted_on.ensures ∙ ap (filter (watch_counts (mailed c.args.mails.now) c.args.spot)) c.take-counted.ensures.taken in
     subst (λ ws. OnOk c.wake_counted.result (ChangesEach (without_waits (map watch_row ws)) c.args.mails.now c.wake_counted.new.mails)) is c.wake_counted.ensures.tokens
