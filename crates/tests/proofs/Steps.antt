@@ -9,7 +9,7 @@ use Rattle.sid_core.specs.declared.entry.Event.TheVariants.{Tidied}
 use Rattle.chain_map.specs.Pairs.{Pairs}
 use Rattle.turn_types.specs.Journal.{Chains}
 use Rattle.turn_types.specs.Shown.{Shown, Plan, Numbered, IsPart, replay, look, or_else, planned, due, is_made, hold, left_over, Made, Committed}
-use Rattle.turn_types.specs.Calls.{Fits, Stands, Stored, Released}
+use Rattle.turn_types.specs.Calls.{Fits, Stands, Planned, Stored, Released}
 use Rattle.turn_types.specs.declared.looked.Looked.{Looked}
 use Rattle.tests.specs.Counting.{added, chain_of_entry, counted}
 use Rattle.tests.specs.Rule.{of_two, first_added, second_added}
@@ -71,6 +71,20 @@ fits_add w x y z by seq held made parts mine next = record {
 
   at_second : get_elem? k (x + 1) ≡ some z
   at_second = parts (x + 1) z second
+
+-- what both chains that were read become is planned
+pub planned_both : {R : Type 0} (v w u : Shown R) (x : ℕ) (y z : Pairs) (new : Numbered) → new ≡ two x (counted y) (counted z) → Planned w u new
+    → At v x (stage.ReadBoth y z) w → At v x stage.Planned u
+planned_both {R} v w u x y z new is p a = subst (λ (t : Shown R). At v x stage.Planned t) (sym p.0) (
+  record {
+    able = record { lives = a.0.able.lives; recovers_none = a.0.able.recovers_none };
+    number = a.0.number;
+    seen = a.0.seen;
+    own = a.0.own;
+  },
+  (y, z, a.1, ap Made is),
+  a.3,
+)
 
 one_more : {R : Type 0} (w : Shown R) (k : Chains) (es : List Entry) (e : Entry) → fold (rule_step w.rule) k (es ++ e ∷ []) ≡ added (fold (rule_step w.rule) k es) e
 one_more w k [] e = refl

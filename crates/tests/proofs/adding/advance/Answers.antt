@@ -1,11 +1,16 @@
 use Rattle.std.proofs.Common.{◌+◌, ap, subst}
 use Rattle.tests.specs.Adding.{At}
 use Rattle.tests.specs.declared.adding.Stage.{Stage}
-use Rattle.tests.proofs.Steps.{fits_add, placed, stored_one, stored_both, gave_one, gave_both}
+use Rattle.tests.proofs.Steps.{planned_both, fits_add, placed, stored_one, stored_both, gave_one, gave_both}
 use Rattle.tests.proofs.adding.advance.Goals as goal
 
 pub returns-in_err-new-in-ReadBoth-clause-beside : goal.returns-in_err-new-in-ReadBoth-clause-beside
 returns-in_err-new-in-ReadBoth-clause-beside g c = c.calls_in_a_row.ensures.none (g.C.Cells.shown c.args.cells.now) (g.C.Cells.beside c.args.cells.now) (g.C.Cells.tells c.args.cells.now)
+
+pub returns-in_ok-new-in-ReadBoth-clause-at : goal.returns-in_ok-new-in-ReadBoth-clause-at
+returns-in_ok-new-in-ReadBoth-clause-at g c = λ v at.
+    let w = g.C.Cells.shown c.args.cells.now in
+    planned_both v w (g.C.Cells.shown c.plan.new.self) c.args.c _ _ _ c.in_ok-new-in-ReadBoth.ensures c.plan.ensures.planned (subst (λ (s : Stage). At v c.args.c s w) c.in-ReadBoth.is at)
 
 pub commit-requires-clause-fits : goal.commit-requires-clause-fits
 commit-requires-clause-fits g c =
