@@ -16,6 +16,9 @@ const OPENS: u32 = 5000;
 /// how many opens are left.
 pub fn count(alloc: Global, others: u32, times: u32) -> Result<u64> {
     let setup = one_worker(alloc)?;
+    if setup.workers.len() > 64 {
+        return Ok(0);
+    }
     let mut table = Table::start(alloc, &setup)?;
     for call in 1..=OPENS {
         push_open(&mut table, call, 1)?;
