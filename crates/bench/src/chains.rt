@@ -91,6 +91,10 @@ pub fn count(alloc: Global, work: ChainWork, order: Order, pairs: u32, times: u3
             packed.as_slice(),
         )?;
     }
+    if let ChainWork::Copy = work {
+        copy_often(&chain, times)?;
+        return Ok(total(&chain));
+    }
     let mut done: u64 = 0;
     for turn in 0..times {
         let at = u64::from(turn.wrapping_mul(7919) % pairs.max(1));
@@ -104,16 +108,24 @@ pub fn count(alloc: Global, work: ChainWork, order: Order, pairs: u32, times: u3
             ChainWork::Remove => {
                 done = done.wrapping_add(u64::from(chain.remove(&order.key(at))));
             }
-            ChainWork::Copy => {
-                let _copy = chain.copy()?;
-            }
-            ChainWork::Change => chain = changed(alloc, chain, order.key(at))?,
-            ChainWork::Patch => chain = patched(alloc, chain, order.key(at))?,
-            ChainWork::Add => chain = added(alloc, chain, order.key(next), packed.as_slice())?,
+            // done above
+            ChainWork::Copy => {}
+            ChainWork::Change => change(alloc, &mut chain, order.key(at))?,
+            ChainWork::Patch => patch(alloc, &mut chain, order.key(at))?,
+            ChainWork::Add => add(alloc, &mut chain, order.key(next), packed.as_slice())?,
             ChainWork::Entries => done = done.wrapping_add(total(&chain)),
         }
     }
     Ok(done.wrapping_add(total(&chain)))
+}
+
+// A loop of its own takes less than one that tells what is done.
+#[inline(never)]
+fn copy_often(chain: &Chain, times: u32) -> Result<()> {
+    for _ in 0..times {
+        let _copy = chain.copy()?;
+    }
+    Ok(())
 }
 
 fn put(alloc: Global, chain: &mut Chain, key: [u8; 24], value: &[u8]) -> Result<()> {
@@ -121,22 +133,22 @@ fn put(alloc: Global, chain: &mut Chain, key: [u8; 24], value: &[u8]) -> Result<
     Ok(())
 }
 
-fn changed(alloc: Global, chain: Chain, key: [u8; 24]) -> Result<Chain> {
+fn change(alloc: Global, chain: &mut Chain, key: [u8; 24]) -> Result<()> {
     let mut next = chain.copy()?;
     let record = ShareRec::unpack(alloc, next.find(&key).context("no record")?)?;
     put_record(alloc, &mut next, key, &record)?;
-    drop(chain);
-    next.settle();
-    Ok(next)
+    *chain = next;
+    chain.settle();
+    Ok(())
 }
 
-fn patched(alloc: Global, chain: Chain, key: [u8; 24]) -> Result<Chain> {
+fn patch(alloc: Global, chain: &mut Chain, key: [u8; 24]) -> Result<()> {
     let mut next = chain.copy()?;
     let bytes = patched_bytes(alloc, key, next.find(&key).context("no record")?)?;
     next.put_packed(bytes, 24)?;
-    drop(chain);
-    next.settle();
-    Ok(next)
+    *chain = next;
+    chain.settle();
+    Ok(())
 }
 
 // The key and behind it the record, judged in place, with another handle of its open.
@@ -146,14 +158,14 @@ fn patched_bytes(alloc: Global, key: [u8; 24], record: &[u8]) -> Result<Vec<u8>>
     if !is_record(record)? {
         return Err(Unpack::Trailing.into());
     }
-    let (front, others) = record.split_at_checked(49).context("no entry")?;
-    let (handle, rest) = others.split_first().context("no handle")?;
     let room = record.len().checked_add(24).context("no room")?;
     let mut bytes = Vec::with_capacity(alloc, room)?;
     bytes.extend_from_slice(&key)?;
-    bytes.extend_from_slice(front)?;
-    bytes.push(handle.wrapping_add(1))?;
-    bytes.extend_from_slice(rest)?;
+    bytes.extend_from_slice(record)?;
+    // the handle of the first entry stands 49 bytes behind the key
+    if 73 < bytes.len() {
+        bytes[73] = bytes[73].wrapping_add(1);
+    }
     Ok(bytes)
 }
 
@@ -168,12 +180,12 @@ fn put_record(alloc: Global, chain: &mut Chain, key: [u8; 24], share: &ShareRec)
     Ok(())
 }
 
-fn added(alloc: Global, chain: Chain, key: [u8; 24], value: &[u8]) -> Result<Chain> {
+fn add(alloc: Global, chain: &mut Chain, key: [u8; 24], value: &[u8]) -> Result<()> {
     let mut next = chain.copy()?;
     put(alloc, &mut next, key, value)?;
-    drop(chain);
-    next.settle();
-    Ok(next)
+    *chain = next;
+    chain.settle();
+    Ok(())
 }
 
 fn total(chain: &Chain) -> u64 {

@@ -10,11 +10,6 @@ abbrev pub laid : Pairs → Pairs → Pairs
 laid [] base = base
 laid (pair ∷ over) base = put pair.0 pair.1 (laid over base)
 
--- the pairs that are put over: one alone, or those of a list
-abbrev pub over_of : Option (List ℕ × List ℕ) → Pairs → Pairs
-over_of None more = more
-over_of (Some pair) more = pair ∷ []
-
 -- the leaves of a chain that may have none
 abbrev pub leaves_of : {A : Type 0} → Option (Arc (List Pairs) A) → List Pairs
 leaves_of None = []

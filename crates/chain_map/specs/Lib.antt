@@ -4,3 +4,4 @@ pub mod Hash
 pub mod Leaves
 pub mod Marks
 pub mod Laid
+pub mod Over

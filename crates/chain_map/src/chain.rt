@@ -117,30 +117,22 @@ impl Chain {
     pub fn copy(&self) -> Result<Chain, OutOfMemory>
         ensures { IfOk result (λ chain. chain ≡ self.now) }
     {
-        if self.over.len() != 0 {
-            return self.copy_over();
-        }
-        let Some(marks) = self.marks.copy_word() else {
-            return copy_marks(&self.base, &self.marks, self.over.allocator());
+        let base = self.base.clone()?;
+        let rest = if self.marks.is_word() {
+            Vec::new(self.over.allocator())
+        } else {
+            self.marks.copy_rest()?
+        };
+        let over = if self.over.is_empty() {
+            Over::new(self.over.allocator())
+        } else {
+            self.over.copy()?
         };
         Ok(Chain {
-            base: self.base.clone()?,
-            over: Over::new(self.over.allocator()),
-            marks,
-            is_due: false,
-        })
-    }
-
-    // The same where pairs are put over the leaves.
-    #[inline(never)]
-    fn copy_over(&self) -> Result<Chain, OutOfMemory>
-        ensures { IfOk result (λ chain. chain ≡ self.now) }
-    {
-        Ok(Chain {
-            base: self.base.clone()?,
-            over: self.over.copy()?,
-            marks: self.marks.copy()?,
-            is_due: true,
+            base,
+            over,
+            marks: self.marks.copy_with(rest),
+            is_due: !self.over.is_empty(),
         })
     }
 
@@ -174,25 +166,6 @@ impl Chain {
     {
         ChainEntries::new(self.over.as_slice(), leaves_of(&self.base), &self.marks)
     }
-}
-
-// A copy where there are several leaves, and nothing is put over them.
-#[inline(never)]
-fn copy_marks(
-    base: &Option<Arc<Base, Global>>,
-    marks: &Marks,
-    alloc: Global,
-) -> Result<Chain, OutOfMemory>
-    requires { length (leaves_of base.now) ≤ length marks.now }
-    ensures { IfOk result (λ chain. chain ≡ shown (leaves_of base.now) marks.now []) }
-{
-    let marks = marks.copy()?;
-    Ok(Chain {
-        base: base.clone()?,
-        over: Over::new(alloc),
-        marks,
-        is_due: false,
-    })
 }
 
 fn leaves_of(base: &Option<Arc<Base, Global>>) -> &[Leaf]

@@ -1,4 +1,4 @@
-ghost use Rattle.std.specs.Prelude.{◌≡◌, ◌<◌, ◌+◌, ◌^◌, [], ◌∷◌, ◌++◌, IfOk, IfSome, OnOk, OnErr, length, slice_index_or, ◌≤◌, IsTrue, slice_set};
+ghost use Rattle.std.specs.Prelude.{◌≡◌, ◌<◌, ◌+◌, ◌^◌, [], ◌∷◌, ◌++◌, IfOk, OnOk, OnErr, length, drop, slice_index_or, ◌≤◌, IsTrue, slice_set};
 ghost use Rattle.std.specs.Int.RustNames.{bit_or};
 ghost use Rattle.chain_map.specs.Marks.{is_gone, no_marks, marks_without};
 
@@ -139,28 +139,30 @@ impl Marks {
         self.any = self.first != 0 || !are_clean(self.rest.as_slice());
     }
 
-    /// The same where there is only one word. Takes no memory.
-    pub(crate) fn copy_word(&self) -> Option<Marks>
-        ensures { IfSome result (λ copy. copy ≡ self.now) }
+    pub(crate) fn is_word(&self) -> bool
+        ensures { IsTrue result → drop 1 self.now ≡ [] }
     {
-        if self.rest.len() != 0 {
-            return None;
-        }
-        Some(Marks {
-            first: self.first,
-            rest: Vec::new(*self.rest.allocator()),
-            any: self.any,
-        })
+        self.rest.is_empty()
     }
 
-    pub(crate) fn copy(&self) -> Result<Marks, OutOfMemory>
-        ensures { IfOk result (λ copy. copy ≡ self.now) }
+    /// The words but for the first. In a function of its own, so that a copy of a chain with one leaf is short.
+    #[inline(never)]
+    pub(crate) fn copy_rest(&self) -> Result<Vec<u64>, OutOfMemory>
+        ensures { IfOk result (λ rest. rest.items ≡ drop 1 self.now) }
     {
-        Ok(Marks {
+        Ok(Vec::from_slice(*self.rest.allocator(), self.rest.as_slice())?)
+    }
+
+    /// A copy, whose words but for the first are given.
+    pub(crate) fn copy_with(&self, rest: Vec<u64>) -> Marks
+        requires { rest.items ≡ drop 1 self.now }
+        ensures { result ≡ self.now }
+    {
+        Marks {
             first: self.first,
-            rest: Vec::from_slice(*self.rest.allocator(), self.rest.as_slice())?,
+            rest,
             any: self.any,
-        })
+        }
     }
 }
 

@@ -1,4 +1,4 @@
-ghost use Rattle.std.specs.Prelude.{◌≡◌, ◌<◌, [], ◌∷◌, IfOk, IfErr, OnOk, OnErr, is_some, length};
+ghost use Rattle.std.specs.Prelude.{◌≡◌, ◌<◌, [], ◌∷◌, IfOk, IfErr, OnOk, OnErr, IsTrue, is_some, length};
 ghost use Rattle.std.specs.Option.{option_copied};
 ghost use Rattle.std.specs.List.{remove};
 ghost use Rattle.chain_map.specs.Pairs.{IsRising, find, put, without};
@@ -10,23 +10,30 @@ use sid_core::OutOfMemory;
 use std::alloc::Global;
 use std::cmp::Ordering;
 use std::marker::Model;
-use std::slice;
+use std::{mem, slice};
 
-/// The pairs that are put over the leaves of a chain, in the order of their keys. One alone takes no list.
+// One pair takes no list.
+#[derive(Drop)]
+enum Form {
+    Empty,
+    One(Pair),
+    Several(Sorted),
+}
+
+/// The pairs that are put over the leaves of a chain, in the order of their keys.
 #[derive(Drop)]
 pub(crate) struct Over {
-    one: Option<Pair>,
-    // the pairs where there isn't that one
-    more: Sorted,
+    form: Form,
+    alloc: Global,
 }
 
 impl Model for Over {
     ghost use Rattle.chain_map.specs.Pairs.{Pairs};
-    ghost use Rattle.chain_map.specs.Laid.{over_of};
+    ghost use Rattle.chain_map.specs.Over.{pairs_of};
 
     ghost Value = { Pairs };
 
-    ghost view = { λ o. over_of o.one o.more };
+    ghost view = { λ o. pairs_of o.form };
 }
 
 impl Over {
@@ -35,55 +42,68 @@ impl Over {
         ensures { result ≡ [] }
     {
         Over {
-            one: None,
-            more: Sorted::new(alloc),
+            form: Form::Empty,
+            alloc,
         }
     }
 
+    // In a function of its own, so that a copy of a chain is short where nothing is put over its leaves.
+    #[inline(never)]
     pub(crate) fn copy(&self) -> Result<Over, OutOfMemory>
         ensures { IfOk result (λ copy. copy ≡ self.now) }
     {
-        match &self.one {
-            Some(pair) => Ok(Over {
-                one: Some(pair.clone()?),
-                more: Sorted::new(self.more.allocator()),
-            }),
-            None => Ok(Over {
-                one: None,
-                more: self.more.copy()?,
-            }),
-        }
+        let form = match &self.form {
+            Form::Empty => Form::Empty,
+            Form::One(pair) => Form::One(pair.clone()?),
+            Form::Several(pairs) => Form::Several(pairs.copy()?),
+        };
+        Ok(Over {
+            form,
+            alloc: self.alloc,
+        })
     }
 
     pub(crate) fn allocator(&self) -> Global {
-        self.more.allocator()
+        self.alloc
+    }
+
+    pub(crate) fn is_empty(&self) -> bool
+        ensures { IsTrue result → self.now ≡ [] }
+    {
+        match &self.form {
+            Form::Empty => true,
+            Form::One(_) | Form::Several(_) => false,
+        }
     }
 
     pub(crate) fn as_slice(&self) -> &[Pair]
         ensures pairs { result.now ≡ self.now }
         ensures rising { IsRising self.now }
     {
-        match &self.one {
-            Some(pair) => slice::from_ref(pair),
-            None => self.more.as_slice(),
+        match &self.form {
+            Form::Empty => &[],
+            Form::One(pair) => slice::from_ref(pair),
+            Form::Several(pairs) => pairs.as_slice(),
         }
     }
 
     pub(crate) fn len(&self) -> usize
         ensures { result ≡ length self.now }
     {
-        match &self.one {
-            Some(_) => 1,
-            None => self.more.len(),
+        match &self.form {
+            Form::Empty => 0,
+            Form::One(_) => 1,
+            Form::Several(pairs) => pairs.len(),
         }
     }
 
     pub(crate) fn find(&self, key: &[u8]) -> Option<&[u8]>
         ensures { option_copied result ≡ find key.now self.now }
     {
-        match &self.one {
-            Some(pair) => pair.value_under(key),
-            None => self.more.find(key),
+        match &self.form {
+            Form::Empty => None,
+            Form::One(pair) => pair.value_under(key),
+            Form::Several(pairs) => pairs.find(key),
         }
     }
 
@@ -92,15 +112,13 @@ impl Over {
         ensures ok { OnOk result (self.new ≡ put pair.0 pair.1 self.old) }
         ensures err { OnErr result (self.new ≡ self.old) }
     {
-        match self.one.take() {
-            Some(one) => self.put_second(one, pair),
-            None => {
-                if self.more.len() != 0 {
-                    return self.more.put(pair);
-                }
-                self.one = Some(pair);
+        match mem::replace(&mut self.form, Form::Empty) {
+            Form::Empty => {
+                self.form = Form::One(pair);
                 Ok(())
             }
+            Form::One(one) => self.put_second(one, pair),
+            Form::Several(pairs) => self.put_among(pairs, pair),
         }
     }
 
@@ -110,34 +128,68 @@ impl Over {
         ensures ok { OnOk result (self.new ≡ put pair.0 pair.1 (one ∷ [])) }
         ensures err { OnErr result (self.new ≡ one ∷ []) }
     {
-        match both(self.more.allocator(), one, pair) {
+        match both(self.alloc, one, pair) {
             Ok(pairs) => {
-                self.one = None;
-                self.more = pairs;
+                self.form = Form::Several(pairs);
                 Ok(())
             }
             Err(one) => {
-                self.one = Some(one);
+                self.form = Form::One(one);
                 Err(OutOfMemory)
             }
         }
+    }
+
+    // Has the list with the pair, or without it where there is no memory.
+    #[inline(never)]
+    fn put_among(&mut self, pairs: Sorted, pair: Pair) -> Result<(), OutOfMemory>
+        ensures ok { OnOk result (self.new ≡ put pair.0 pair.1 pairs) }
+        ensures err { OnErr result (self.new ≡ pairs) }
+    {
+        let mut pairs = pairs;
+        let done = pairs.put(pair);
+        self.form = Form::Several(pairs);
+        done
     }
 
     pub(crate) fn remove(&mut self, key: &[u8]) -> bool
         ensures found { result ≡ is_some (find key.now self.old) }
         ensures others { self.new ≡ without key.now self.old }
     {
-        match &self.one {
-            Some(pair) => {
-                if !pair.cmp_key(key).is_eq() {
-                    return false;
-                }
-                self.one = None;
-                self.more = Sorted::new(self.more.allocator());
-                true
-            }
-            None => self.more.remove(key),
+        match mem::replace(&mut self.form, Form::Empty) {
+            Form::Empty => false,
+            Form::One(one) => self.remove_one(one, key),
+            Form::Several(pairs) => self.remove_among(pairs, key),
         }
+    }
+
+    // Has the pair unless it is the key's.
+    #[inline(never)]
+    fn remove_one(&mut self, one: Pair, key: &[u8]) -> bool
+        requires { self.old ≡ [] }
+        ensures found { result ≡ is_some (find key.now (one ∷ [])) }
+        ensures others { self.new ≡ without key.now (one ∷ []) }
+    {
+        if one.cmp_key(key).is_eq() {
+            return true;
+        }
+        self.form = Form::One(one);
+        false
+    }
+
+    // Has the list without the key's pair.
+    #[inline(never)]
+    fn remove_among(&mut self, pairs: Sorted, key: &[u8]) -> bool
+        requires { self.old ≡ [] }
+        ensures found { result ≡ is_some (find key.now pairs) }
+        ensures others { self.new ≡ without key.now pairs }
+    {
+        let mut pairs = pairs;
+        let found = pairs.remove(key);
+        if pairs.len() != 0 {
+            self.form = Form::Several(pairs);
+        }
+        found
     }
 
     /// Takes the pair at this place out.
@@ -146,13 +198,27 @@ impl Over {
         ensures pair { result ≡ pair_at self.old at }
         ensures rest { self.new ≡ remove self.old at }
     {
-        match self.one.take() {
-            Some(pair) => {
-                self.more = Sorted::new(self.more.allocator());
-                pair
-            }
-            None => self.more.take(at),
+        match mem::replace(&mut self.form, Form::Empty) {
+            Form::Empty => unreachable!(),
+            Form::One(pair) => pair,
+            Form::Several(pairs) => self.take_among(pairs, at),
         }
+    }
+
+    // Has the list without the pair at this place.
+    #[inline(never)]
+    fn take_among(&mut self, pairs: Sorted, at: usize) -> Pair
+        requires none { self.old ≡ [] }
+        requires at { at < length pairs }
+        ensures pair { result ≡ pair_at pairs at }
+        ensures rest { self.new ≡ remove pairs at }
+    {
+        let mut pairs = pairs;
+        let pair = pairs.take(at);
+        if pairs.len() != 0 {
+            self.form = Form::Several(pairs);
+        }
+        pair
     }
 }
 

@@ -5,8 +5,8 @@ ghost use Rattle.record_codec.specs.Reads.{Gives};
 
 use crate::fault::Unpack;
 use crate::reading::{
-    lowered_at, state_or_zero_at, truth_at, truth_or_zero_at, u8_at, u32_at, u32_or_zero_at,
-    u64_at, u64_or_zero_at,
+    in_set, lowered_at, state_or_zero_at, truth_at, truth_or_zero_at, u8_at, u32_at,
+    u32_or_zero_at, u64_at, u64_or_zero_at,
 };
 use crate::record::Packed;
 use crate::rows::{Row, owned_list_at, put_list};
@@ -33,16 +33,12 @@ fn spot_at(bytes: &[u8]) -> Result<(Spot, &[u8]), Unpack>
     ensures { Gives (λ x. (x.0, x.1.now)) result ((spot_codec 5 6).read bytes.now) }
 {
     let (kind, rest) = u8_at(bytes)?;
-    if 2 < kind {
-        return Err(Unpack::BadField(5));
-    }
+    in_set(kind <= 2, 5)?;
     let (number, rest) = u64_at(rest)?;
     if kind == 2 {
         return Ok((Spot::LockOf(number), rest));
     }
-    if 0xFFFF_FFFF < number {
-        return Err(Unpack::BadField(6));
-    }
+    in_set(number <= 0xFFFF_FFFF, 6)?;
     let file = number as u32;
     if kind == 0 {
         return Ok((Spot::OpenOf(file), rest));

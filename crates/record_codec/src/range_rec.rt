@@ -5,7 +5,7 @@ ghost use Rattle.record_codec.specs.RangeRec.{range_item, IsRangeItem, range_len
 ghost use Rattle.record_codec.specs.Reads.{Gives};
 
 use crate::fault::Unpack;
-use crate::reading::{mode_at, open_id_at, u32_at, u64_at};
+use crate::reading::{in_set, mode_at, open_id_at, u32_at, u64_at};
 use crate::record::Packed;
 use crate::rows::{Row, owned_list_at, put_list};
 use crate::watch::{WatchRec, WatchRow};
@@ -30,14 +30,18 @@ pub struct RangeRec {
     pub watchers: Items<WatchRec>,
 }
 
+fn is_length(start: u64, length: u64) -> bool
+    ensures { result ≡ range_length start length }
+{
+    length == 0 || length - 1 <= u64::MAX - start
+}
+
 // The length of a range that begins there: the last byte of one that isn't empty has a number of 64 bits.
 fn length_at(bytes: &[u8], start: u64) -> Result<(u64, &[u8]), Unpack>
     ensures { Gives (λ x. (x.0, x.1.now)) result ((u64_in 8 (range_length start)).read bytes.now) }
 {
     let (length, rest) = u64_at(bytes)?;
-    if length != 0 && u64::MAX - start < length - 1 {
-        return Err(Unpack::BadField(8));
-    }
+    in_set(is_length(start, length), 8)?;
     Ok((length, rest))
 }
 

@@ -1,5 +1,5 @@
 //! The fields of records in place: what each function answers is what `unpack` answers there. None takes memory.
-ghost use Rattle.std.specs.Prelude.{◌≡◌, ℕ, List, [], ◌∷◌, true};
+ghost use Rattle.std.specs.Prelude.{◌≡◌, ◌&&◌, ℕ, List, [], ◌∷◌, true, not, nat_lt, IfOk, IfErr, IsTrue};
 ghost use Rattle.std.specs.List.{list_all};
 ghost use Rattle.sid_core.specs.Values.{is_state as is_state_number};
 ghost use Rattle.record_codec.specs.declared.fault.Unpack.TheVariants.{BadField};
@@ -11,6 +11,18 @@ ghost use Rattle.record_codec.specs.Reads.{Gives};
 use crate::fault::Unpack;
 use byteorder::{ByteOrder, LittleEndian};
 use sid_core::{LeaseState, Mode, OpenId, Sid};
+
+/// What was read of a field lies in its set: the one place where a value that doesn't becomes a fault.
+#[inline(always)]
+pub(crate) fn in_set(is_in: bool, field: u32) -> Result<(), Unpack>
+    ensures inside { IfOk result (λ _. IsTrue is_in) }
+    ensures outside { IfErr result (λ e. IsTrue (not is_in) × (e ≡ BadField field)) }
+{
+    if !is_in {
+        return Err(Unpack::BadField(field));
+    }
+    Ok(())
+}
 
 /// A number of one byte.
 #[tactic(auto, unfolding(crate::specs::Codec::raw))]
@@ -63,21 +75,21 @@ pub fn u64_at(bytes: &[u8]) -> Result<(u64, &[u8]), Unpack>
 pub fn truth_at(bytes: &[u8], field: u32) -> Result<(bool, &[u8]), Unpack>
     ensures { Gives (λ x. (x.0, x.1.now)) result ((truth field).read bytes.now) }
 {
-    match u8_at(bytes)? {
-        (0, rest) => Ok((false, rest)),
-        (1, rest) => Ok((true, rest)),
-        _ => Err(Unpack::BadField(field)),
-    }
+    let (number, rest) = u8_at(bytes)?;
+    in_set(number < 2, field)?;
+    Ok((number == 1, rest))
 }
 
 /// 0 is shared and 1 is exclusive.
 pub fn mode_at(bytes: &[u8], field: u32) -> Result<(Mode, &[u8]), Unpack>
     ensures { Gives (λ x. (x.0, x.1.now)) result ((mode field).read bytes.now) }
 {
-    match u8_at(bytes)? {
-        (0, rest) => Ok((Mode::Shared, rest)),
-        (1, rest) => Ok((Mode::Exclusive, rest)),
-        _ => Err(Unpack::BadField(field)),
+    let (number, rest) = u8_at(bytes)?;
+    in_set(number < 2, field)?;
+    if number == 0 {
+        Ok((Mode::Shared, rest))
+    } else {
+        Ok((Mode::Exclusive, rest))
     }
 }
 
@@ -99,14 +111,18 @@ pub fn open_id_at(bytes: &[u8]) -> Result<(OpenId, &[u8]), Unpack>
     Ok((OpenId { pid, call }, rest))
 }
 
+fn is_within(number: u32, low: u32, high: u32) -> bool
+    ensures { result ≡ within low high number }
+{
+    low <= number && number <= high
+}
+
 /// A number from `low` to `high`.
 pub fn u32_within(bytes: &[u8], field: u32, low: u32, high: u32) -> Result<(u32, &[u8]), Unpack>
     ensures { Gives (λ x. (x.0, x.1.now)) result ((u32_in field (within low high)).read bytes.now) }
 {
     let (number, rest) = u32_at(bytes)?;
-    if number < low || high < number {
-        return Err(Unpack::BadField(field));
-    }
+    in_set(is_within(number, low, high), field)?;
     Ok((number, rest))
 }
 
@@ -115,10 +131,14 @@ pub fn moment_at(bytes: &[u8], field: u32) -> Result<(u64, &[u8]), Unpack>
     ensures { Gives (λ x. (x.0, x.1.now)) result ((u64_in field is_moment).read bytes.now) }
 {
     let (number, rest) = u64_at(bytes)?;
-    if number > 9_999_999_999 {
-        return Err(Unpack::BadField(field));
-    }
+    in_set(number <= 9_999_999_999, field)?;
     Ok((number, rest))
+}
+
+fn is_zero_unless(condition: bool, number: u64) -> bool
+    ensures { result ≡ zero_unless condition number }
+{
+    condition || number == 0
 }
 
 /// A number that is 0 unless the condition holds.
@@ -126,9 +146,7 @@ pub fn u32_or_zero_at(bytes: &[u8], field: u32, condition: bool) -> Result<(u32,
     ensures { Gives (λ x. (x.0, x.1.now)) result ((u32_in field (zero_unless condition)).read bytes.now) }
 {
     let (number, rest) = u32_at(bytes)?;
-    if !condition && number != 0 {
-        return Err(Unpack::BadField(field));
-    }
+    in_set(is_zero_unless(condition, u64::from(number)), field)?;
     Ok((number, rest))
 }
 
@@ -137,10 +155,14 @@ pub fn u64_or_zero_at(bytes: &[u8], field: u32, condition: bool) -> Result<(u64,
     ensures { Gives (λ x. (x.0, x.1.now)) result ((u64_in field (zero_unless condition)).read bytes.now) }
 {
     let (number, rest) = u64_at(bytes)?;
-    if !condition && number != 0 {
-        return Err(Unpack::BadField(field));
-    }
+    in_set(is_zero_unless(condition, number), field)?;
     Ok((number, rest))
+}
+
+fn is_truth_unless(condition: bool, number: u8) -> bool
+    ensures { result ≡ (nat_lt number 2 && zero_unless condition number) }
+{
+    number < 2 && (condition || number == 0)
 }
 
 /// A truth value that is false unless the condition holds.
@@ -148,9 +170,7 @@ pub fn truth_or_zero_at(bytes: &[u8], field: u32, condition: bool) -> Result<(bo
     ensures { Gives (λ x. (x.0, x.1.now)) result ((truth_in field (zero_unless condition)).read bytes.now) }
 {
     let (number, rest) = u8_at(bytes)?;
-    if 1 < number || !condition && number != 0 {
-        return Err(Unpack::BadField(field));
-    }
+    in_set(is_truth_unless(condition, number), field)?;
     Ok((number == 1, rest))
 }
 
@@ -165,10 +185,14 @@ pub fn state_at(bytes: &[u8], field: u32) -> Result<(LeaseState, &[u8]), Unpack>
     ensures { Gives (λ x. (x.0, x.1.now)) result ((state field).read bytes.now) }
 {
     let (number, rest) = u8_at(bytes)?;
-    if !is_state(number) {
-        return Err(Unpack::BadField(field));
-    }
+    in_set(is_state(number), field)?;
     Ok((LeaseState(number), rest))
+}
+
+fn is_state_unless(condition: bool, number: u8) -> bool
+    ensures { result ≡ (is_state_number number && zero_unless condition number) }
+{
+    is_state(number) && (condition || number == 0)
 }
 
 /// A state that is 0 unless the condition holds.
@@ -180,15 +204,16 @@ pub fn state_or_zero_at(
     ensures { Gives (λ x. (x.0, x.1.now)) result ((state_in field (zero_unless condition)).read bytes.now) }
 {
     let (number, rest) = u8_at(bytes)?;
-    if !is_state(number) || !condition && number != 0 {
-        return Err(Unpack::BadField(field));
-    }
+    in_set(is_state_unless(condition, number), field)?;
     Ok((LeaseState(number), rest))
 }
 
 fn is_lowered(number: u8, breaking: bool, held: LeaseState) -> bool
-    ensures { result ≡ lowered breaking held number }
+    ensures { result ≡ (is_state_number number && lowered breaking held number) }
 {
+    if !is_state(number) {
+        return false;
+    }
     if breaking {
         number & held.0 == number && number != held.0
     } else {
@@ -206,15 +231,16 @@ pub fn lowered_at(
     ensures { Gives (λ x. (x.0, x.1.now)) result ((state_in field (lowered breaking held)).read bytes.now) }
 {
     let (number, rest) = u8_at(bytes)?;
-    if !is_state(number) || !is_lowered(number, breaking, held) {
-        return Err(Unpack::BadField(field));
-    }
+    in_set(is_lowered(number, breaking, held), field)?;
     Ok((LeaseState(number), rest))
 }
 
 fn is_needed(number: u8, breaking: bool, asked: LeaseState) -> bool
-    ensures { result ≡ needed breaking asked number }
+    ensures { result ≡ (is_state_number number && needed breaking asked number) }
 {
+    if !is_state(number) {
+        return false;
+    }
     if breaking {
         number & asked.0 == number
     } else {
@@ -232,9 +258,7 @@ pub fn needed_at(
     ensures { Gives (λ x. (x.0, x.1.now)) result ((state_in field (needed breaking asked)).read bytes.now) }
 {
     let (number, rest) = u8_at(bytes)?;
-    if !is_state(number) || !is_needed(number, breaking, asked) {
-        return Err(Unpack::BadField(field));
-    }
+    in_set(is_needed(number, breaking, asked), field)?;
     Ok((LeaseState(number), rest))
 }
 
@@ -253,9 +277,7 @@ pub fn expiry_at(bytes: &[u8], field: u32, breaking: bool) -> Result<(u64, &[u8]
     ensures { Gives (λ x. (x.0, x.1.now)) result ((u64_in field (expires breaking)).read bytes.now) }
 {
     let (number, rest) = u64_at(bytes)?;
-    if !is_expiry(number, breaking) {
-        return Err(Unpack::BadField(field));
-    }
+    in_set(is_expiry(number, breaking), field)?;
     Ok((number, rest))
 }
 
@@ -310,19 +332,21 @@ fn printable_at(bytes: &[u8], len: usize, field: u32) -> Result<(&[u8], &[u8]), 
         return Err(Unpack::Short);
     }
     let (front, rest) = bytes.split_at(len);
-    if !are_printable(front) {
-        return Err(Unpack::BadField(field));
-    }
+    in_set(are_printable(front), field)?;
     Ok((front, rest))
+}
+
+fn is_text_len(len: u16) -> bool
+    ensures { result ≡ is_text_length len }
+{
+    1 <= len && len <= 255
 }
 
 fn text_length_at(bytes: &[u8], field: u32) -> Result<(u16, &[u8]), Unpack>
     ensures { Gives (λ x. (x.0, x.1.now)) result ((number_codec 2 is_text_length (BadField field)).read bytes.now) }
 {
     let (len, rest) = u16_at(bytes)?;
-    if len < 1 || 255 < len {
-        return Err(Unpack::BadField(field));
-    }
+    in_set(is_text_len(len), field)?;
     Ok((len, rest))
 }
 

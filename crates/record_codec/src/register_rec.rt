@@ -6,7 +6,7 @@ ghost use Rattle.record_codec.specs.RegisterRec.{ended as ended_codec, ended_cou
 ghost use Rattle.record_codec.specs.Reads.{GivesOrMemory};
 
 use crate::fault::Unpack;
-use crate::reading::{moment_at, truth_at, u32_at, u32_within};
+use crate::reading::{in_set, moment_at, truth_at, u32_at, u32_within};
 use crate::record::Packed;
 use crate::rows::{Row, owned_list_at, put_list, rows_at};
 use crate::watch::{WatchRec, WatchRow};
@@ -66,9 +66,7 @@ fn ended_at(
         session
     };
     let (count, rest) = u32_at(bytes)?;
-    if count != sessions {
-        return Err(Unpack::BadField(7));
-    }
+    in_set(count == sessions, 7)?;
     let (rows, rest) = rows_at::<u64, EndedRow>(alloc, count, rest)?;
     Ok((Items::from_vec(rows), rest))
 }

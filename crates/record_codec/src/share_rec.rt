@@ -1,4 +1,4 @@
-ghost use Rattle.std.specs.Prelude.{◌≡◌, ◌+◌, ◌*◌, ◌++◌, ◌<◌, ◌≤◌, ◌^◌, ◌↔◌, IfOk, IsTrue, codes, length, vec_len, vec_capacity};
+ghost use Rattle.std.specs.Prelude.{◌≡◌, ◌+◌, ◌*◌, ◌++◌, ◌<◌, ◌≤◌, ◌^◌, ◌↔◌, Err, IfOk, IsTrue, codes, length, vec_len, vec_capacity};
 ghost use Rattle.byteorder.specs.Endian.{little_bytes};
 ghost use Rattle.record_codec.specs.Fields.{open_id, sid, text};
 ghost use Rattle.record_codec.specs.ShareRec.{access as access_codec, is_access as is_access_number, has_delete, lease_name, share_bits, unmarked_entry, IsUnmarkedEntry, share_entry, IsShareEntry, old_share_fields, share_fields, share_fields_of, share_rec, HasNoMark, IsShareRec};
@@ -6,7 +6,7 @@ ghost use Rattle.record_codec.specs.Reads.{Gives, GivesOrMemory};
 
 use crate::fault::Unpack;
 use crate::reading::{
-    moment_at, open_id_at, sid_at, text_at, truth_at, truth_or_zero_at, u8_at, u32_at,
+    in_set, moment_at, open_id_at, sid_at, text_at, truth_at, truth_or_zero_at, u8_at, u32_at,
     u32_or_zero_at, u64_or_zero_at,
 };
 use crate::record::Packed;
@@ -58,9 +58,7 @@ fn access_at(bytes: &[u8], field: u32) -> Result<(Access, &[u8]), Unpack>
     ensures { Gives (λ x. (x.0, x.1.now)) result ((access_codec field).read bytes.now) }
 {
     let (bits, rest) = u32_at(bytes)?;
-    if !is_access(bits) {
-        return Err(Unpack::BadField(field));
-    }
+    in_set(is_access(bits), field)?;
     Ok((Access(bits), rest))
 }
 
@@ -68,9 +66,7 @@ fn share_at(bytes: &[u8], field: u32) -> Result<(Share, &[u8]), Unpack>
     ensures { Gives (λ x. (x.0, x.1.now)) result ((share_bits field).read bytes.now) }
 {
     let (bits, rest) = u8_at(bytes)?;
-    if 7 < bits {
-        return Err(Unpack::BadField(field));
-    }
+    in_set(bits <= 7, field)?;
     Ok((Share(bits as u32), rest))
 }
 
@@ -153,20 +149,30 @@ fn entry_at(bytes: &[u8]) -> Result<(ShareEntry, &[u8]), Unpack>
     Ok((ShareEntry { marked, ..entry }, rest))
 }
 
+// The first fault of bytes that are too few for an entry.
 #[cold]
 #[inline(never)]
-fn short_entry_at(bytes: &[u8]) -> Result<(ShareEntry, &[u8]), Unpack>
-    ensures { Gives (λ x. (x.0, x.1.now)) result (share_entry.read bytes.now) }
+fn short_entry_fault(bytes: &[u8]) -> Unpack
+    requires { length bytes.now < 55 }
+    ensures { share_entry.read bytes.now ≡ Err result }
 {
-    entry_at(bytes)
+    match entry_at(bytes) {
+        Ok(_) => unreachable!(),
+        Err(fault) => fault,
+    }
 }
 
+// The same in version 1.
 #[cold]
 #[inline(never)]
-fn short_unmarked_entry_at(bytes: &[u8]) -> Result<(ShareEntry, &[u8]), Unpack>
-    ensures { Gives (λ x. (x.0, x.1.now)) result ((unmarked_entry 7).read bytes.now) }
+fn short_unmarked_entry_fault(bytes: &[u8]) -> Unpack
+    requires { length bytes.now < 54 }
+    ensures { (unmarked_entry 7).read bytes.now ≡ Err result }
 {
-    unmarked_entry_at(bytes, 7)
+    match unmarked_entry_at(bytes, 7) {
+        Ok(_) => unreachable!(),
+        Err(fault) => fault,
+    }
 }
 
 fn put_owner(out: &mut Vec<u8>, entry: &ShareEntry)
@@ -233,7 +239,7 @@ impl Row<ShareEntry> for ShareEntryRow {
     #[inline(always)]
     fn at(bytes: &[u8]) -> Result<(ShareEntry, &[u8]), Unpack> {
         if bytes.len() < 55 {
-            return short_entry_at(bytes);
+            return Err(short_entry_fault(bytes));
         }
         entry_at(bytes)
     }
@@ -263,7 +269,7 @@ impl Row<ShareEntry> for UnmarkedEntryRow {
     #[inline(always)]
     fn at(bytes: &[u8]) -> Result<(ShareEntry, &[u8]), Unpack> {
         if bytes.len() < 54 {
-            return short_unmarked_entry_at(bytes);
+            return Err(short_unmarked_entry_fault(bytes));
         }
         unmarked_entry_at(bytes, 7)
     }

@@ -18,6 +18,7 @@ use Rattle.serial_table.specs.View.{view, lives, carries, is_of_file, is_range_o
 use Rattle.serial_table.specs.File.{FileView, file_view, file_open, is_under}
 use Rattle.serial_table.specs.Settle.{settle_where, settled_lease, broken_to_needed, lacks_handle, keeps_open, keeps_range, keeps_lease, keeps_pending, row_stays, range_stays, lease_settles, lease_stays, pending_stays}
 use Rattle.serial_table.specs.InPlace.{is_lease_of, is_under_lease, break_if_any_ends, lease_ends_break, lacks_lease, goes, goes_with, range_goes, lease_goes, pending_goes, without_what_goes, lacks_once_settled, goes_once_settled}
+use Rattle.serial_table.proofs.Unmoved.{none_leaves}
 use Rattle.serial_table.proofs.Filters.{filter-map, any_here, any_same, filter_all}
 use Rattle.serial_table.proofs.Views.{name-settled_lease, file-settled_lease}
 
@@ -224,12 +225,6 @@ none_goes_later : (b c : Bool) → (b || c) ≡ false → c ≡ false
 none_goes_later true c e = absurd cc
 none_goes_later false c e = e
 
-all_stay : {X : Type 0} (p : X → Bool) (xs : List X) → list_any p xs ≡ false → filter (λ x. not (p x)) xs ≡ xs
-all_stay p [] e = refl
-all_stay p (x ∷ xs) e =
-    ap (λ b. cond (not b) (x ∷ filter (λ x. not (p x)) xs) (filter (λ x. not (p x)) xs)) (none_goes_here (p x) (list_any p xs) e)
-    ∙ ap (λ ys. x ∷ ys) (all_stay p xs (none_goes_later (p x) (list_any p xs) e))
-
 none_with : {X : Type 0} (p q c : X → Bool) (xs : List X) → list_any q xs ≡ false → list_any (λ x. p x && q x) (filter c xs) ≡ false
 none_with p q c [] e = refl
 none_with p q c (x ∷ xs) e =
@@ -241,7 +236,7 @@ none_with p q c (x ∷ xs) e =
 
 pub nothing_goes : (here : ℕ → Bool) (t : Table) → list_any (goes here (lives (view t)) t.leases) t.opens ≡ false → without_what_goes here t ≡ t
 nothing_goes here t e = λ i. record t {
-  opens = all_stay (goes here (lives (view t)) t.leases) t.opens e i;
+  opens = none_leaves (goes here (lives (view t)) t.leases) t.opens e i;
   ranges = (filter_all (λ r. not (range_goes here (goes here (lives (view t)) t.leases) t.opens r))
       (λ r. ap (λ b. not (here r.file && b)) (none_with (λ o. same_id o.id r.id) (goes here (lives (view t)) t.leases) (is_of_file r.file) t.opens e) ∙ ap not (and-false (here r.file))) t.ranges) i;
 }

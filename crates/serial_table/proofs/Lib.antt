@@ -12,6 +12,7 @@ pub mod Names
 pub mod Views
 pub mod Members
 pub mod Going
+pub mod Unmoved
 pub mod Living
 pub mod Consistent
 pub mod SettledSound

@@ -16,8 +16,8 @@ fn opens_of(alloc: Global, opens: &[OpenRow], file: u32) -> Result<Vec<OpenRow>,
 {
     let rows = opens
         .iter()
-        .copied()
         .filter(|row| view::is_of_file(file, row))
+        .copied()
         .collect(alloc)?;
     Ok(rows)
 }
@@ -27,8 +27,8 @@ fn leases_of(alloc: Global, leases: &[LeaseRow], file: u32) -> Result<Vec<LeaseR
 {
     let rows = leases
         .iter()
-        .copied()
         .filter(|lease| is_lease_of(file, lease))
+        .copied()
         .collect(alloc)?;
     Ok(rows)
 }

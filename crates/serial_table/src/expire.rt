@@ -202,8 +202,8 @@ fn all_due(table: &Table, now: Moment) -> Result<Vec<LeaseRow>, OutOfMemory>
         .leases
         .as_slice()
         .iter()
-        .copied()
         .filter(|lease| is_due(now, lease))
+        .copied()
         .collect(table.leases.allocator())?;
     Ok(rows)
 }

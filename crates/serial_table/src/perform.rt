@@ -59,18 +59,13 @@ fn set_lease(
     name: LeaseName,
     held: LeaseState,
     breaking: Option<Breaking>,
-    lease: LeaseRow,
-) -> LeaseRow
-    ensures { result ≡ set_lease file name held breaking lease }
+    lease: &mut LeaseRow,
+)
+    ensures { lease.new ≡ set_lease file name held breaking lease.old }
 {
-    if is_lease(file, name, &lease) {
-        LeaseRow {
-            held,
-            breaking,
-            ..lease
-        }
-    } else {
-        lease
+    if is_lease(file, name, lease) {
+        lease.held = held;
+        lease.breaking = breaking;
     }
 }
 
@@ -188,7 +183,7 @@ pub(crate) fn set_leases(
     ensures room { vec_capacity leases.new ≡ vec_capacity leases.old }
 {
     for lease in leases.iter_mut() {
-        *lease = set_lease(file, name, held, breaking, *lease);
+        set_lease(file, name, held, breaking, lease);
     }
 }
 

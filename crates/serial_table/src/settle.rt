@@ -1,4 +1,4 @@
-ghost use Rattle.std.specs.Prelude.{◌≡◌, ◌≤◌, ◌&&◌, not, filter, map, vec_len, vec_capacity};
+ghost use Rattle.std.specs.Prelude.{◌≡◌, ◌≤◌, ◌&&◌, not, is_some, filter, map, vec_len, vec_capacity};
 ghost use Rattle.std.specs.List.{list_any};
 ghost use Rattle.sid_core.specs.Values.{has};
 ghost use Rattle.serial_table.specs.View.{is_of_file, has_name};
@@ -208,6 +208,30 @@ fn settle_leases(scope: Scope, opens: &[OpenRow], workers: &[WorkerRow], leases:
     }
 }
 
+fn some_lease_breaks(scope: Scope, leases: &[LeaseRow]) -> bool
+    ensures { result ≡ list_any (λ lease. in_scope scope lease.file && is_some lease.breaking) leases.now }
+{
+    leases
+        .iter()
+        .any(|lease| scope.has(lease.file) && lease.breaking.is_some())
+}
+
+/// The leases are written only where one of the scope is breaking.
+fn settle_breaking(
+    scope: Scope,
+    opens: &[OpenRow],
+    workers: &[WorkerRow],
+    leases: &mut Vec<LeaseRow>,
+)
+    ensures items { leases.new.items ≡ map (lease_ends_break (in_scope scope) opens.now (lives_by workers.now)) leases.old.items }
+    ensures len { vec_len leases.new ≡ vec_len leases.old }
+    ensures room { vec_capacity leases.new ≡ vec_capacity leases.old }
+{
+    if some_lease_breaks(scope, leases.as_slice()) {
+        settle_leases(scope, opens, workers, leases);
+    }
+}
+
 fn drop_ranges(
     scope: Scope,
     opens: &[OpenRow],
@@ -230,12 +254,29 @@ fn drop_opens(scope: Scope, leases: &[LeaseRow], workers: &[WorkerRow], opens: &
     opens.retain(|row| !goes(scope, leases, workers, row));
 }
 
-fn drop_leases(scope: Scope, opens: &[OpenRow], leases: &mut Vec<LeaseRow>)
+fn some_lease_goes(scope: Scope, opens: &[OpenRow], leases: &[LeaseRow]) -> bool
+    ensures { result ≡ list_any (lease_goes (in_scope scope) opens.now) leases.now }
+{
+    leases.iter().any(|lease| lease_goes(scope, opens, lease))
+}
+
+fn keep_opened(scope: Scope, opens: &[OpenRow], leases: &mut Vec<LeaseRow>)
     ensures items { leases.new.items ≡ filter (λ lease. not (lease_goes (in_scope scope) opens.now lease)) leases.old.items }
     ensures len { vec_len leases.new ≤ vec_len leases.old }
     ensures room { vec_capacity leases.new ≡ vec_capacity leases.old }
 {
     leases.retain(|lease| !lease_goes(scope, opens, lease));
+}
+
+/// The leases are moved only where one of the scope goes.
+fn drop_leases(scope: Scope, opens: &[OpenRow], leases: &mut Vec<LeaseRow>)
+    ensures items { leases.new.items ≡ filter (λ lease. not (lease_goes (in_scope scope) opens.now lease)) leases.old.items }
+    ensures len { vec_len leases.new ≤ vec_len leases.old }
+    ensures room { vec_capacity leases.new ≡ vec_capacity leases.old }
+{
+    if some_lease_goes(scope, opens, leases.as_slice()) {
+        keep_opened(scope, opens, leases);
+    }
 }
 
 fn drop_pending(scope: Scope, opens: &[OpenRow], pending: &mut Vec<u32>)
@@ -280,7 +321,7 @@ impl Lists {
         ensures table { table_of self.new ≡ settle_where (in_scope scope) (table_of self.old) }
         ensures room { KeepsRoom self.old self.new }
     {
-        settle_leases(
+        settle_breaking(
             scope,
             self.opens.as_slice(),
             self.workers.as_slice(),

@@ -62,7 +62,7 @@ map_twice : {A B C : Type 0} (f : A → B) (g : B → C) (xs : List A) → map g
 map_twice f g [] = refl
 map_twice f g (x ∷ xs) = ap (λ ys. g (f x) ∷ ys) (map_twice f g xs)
 
-none_in : {A : Type 0} (xs : List A) → ((x : A) → IsIn x xs → ⊥) → xs ≡ []
+pub none_in : {A : Type 0} (xs : List A) → ((x : A) → IsIn x xs → ⊥) → xs ≡ []
 none_in [] h = refl
 none_in (x ∷ xs) h = absurd (h x (inl refl))
 
@@ -73,7 +73,7 @@ get_none [] i e = omega arith
 get_none (x ∷ xs) zero e = absurd cc
 get_none (x ∷ xs) (suc i) e = omega (arith, get_none xs i e)
 
-not_declared : {A : Type 0} (xs : List A) (number : ℕ) → declared_at xs number ≡ None → IsDeclared xs number → ⊥
+pub not_declared : {A : Type 0} (xs : List A) (number : ℕ) → declared_at xs number ≡ None → IsDeclared xs number → ⊥
 not_declared xs zero e h = omega (arith, h.0)
 not_declared xs (suc i) e h = omega (arith, get_none xs i e, h.1)
 
@@ -99,7 +99,7 @@ range_watches_clean r file None = refl
 range_watches_clean r file (Some s) = part_later (λ x. x.watchers) (filter (range_counts r file) s.ranges) (filter (watch_counts r (RangesOf file)) s.watchers)
     (record s { ranges = filter (range_counts r file) s.ranges; watchers = filter (watch_counts r (RangesOf file)) s.watchers }) refl
 
-entries_exact : (v : View) (file : ℕ) (o : Option FileInfo) → (o ≡ None → v.opens_of file ≡ []) → part_of (λ x. x.entries) (option_and_then (share_of v file) o) ≡ map entry_of (v.opens_of file)
+pub entries_exact : (v : View) (file : ℕ) (o : Option FileInfo) → (o ≡ None → v.opens_of file ≡ []) → part_of (λ x. x.entries) (option_and_then (share_of v file) o) ≡ map entry_of (v.opens_of file)
 entries_exact v file None h = sym (ap (map entry_of) (h refl))
 entries_exact v file (Some info) h = part_kept (λ x. x.entries) (map entry_of (v.opens_of file)) (map watch_of (v.watches_on (OpenOf file)))
     (record { file = file; path = info.path; name = info.name; pending = v.is_pending file; entries = map entry_of (v.opens_of file); watchers = map watch_of (v.watches_on (OpenOf file)) }) refl
@@ -109,7 +109,7 @@ open_watches_exact v file None h = sym (ap (map watch_of) (h refl))
 open_watches_exact v file (Some info) h = part_later (λ x. x.watchers) (map entry_of (v.opens_of file)) (map watch_of (v.watches_on (OpenOf file)))
     (record { file = file; path = info.path; name = info.name; pending = v.is_pending file; entries = map entry_of (v.opens_of file); watchers = map watch_of (v.watches_on (OpenOf file)) }) refl
 
-items_exact : (v : View) (file : ℕ) (o : Option FileInfo) → (o ≡ None → v.ranges_of file ≡ []) → part_of (λ x. x.ranges) (option_and_then (ranges_of v file) o) ≡ map item_of (v.ranges_of file)
+pub items_exact : (v : View) (file : ℕ) (o : Option FileInfo) → (o ≡ None → v.ranges_of file ≡ []) → part_of (λ x. x.ranges) (option_and_then (ranges_of v file) o) ≡ map item_of (v.ranges_of file)
 items_exact v file None h = sym (ap (map item_of) (h refl))
 items_exact v file (Some info) h = part_kept (λ x. x.ranges) (map item_of (v.ranges_of file)) (map watch_of (v.watches_on (RangesOf file)))
     (record { file = file; ranges = map item_of (v.ranges_of file); watchers = map watch_of (v.watches_on (RangesOf file)) }) refl
@@ -166,11 +166,11 @@ pending_exact v file (Some info) h f =
 
 -- ---- who lives
 
-current_clean : (r : Records) (session : ℕ) (o : Option RegisterRec) → is_current o session ≡ is_current (option_map (clean_register r) o) session
+pub current_clean : (r : Records) (session : ℕ) (o : Option RegisterRec) → is_current o session ≡ is_current (option_map (clean_register r) o) session
 current_clean r session None = refl
 current_clean r session (Some x) = refl
 
-current_exact : (v : View) (session : ℕ) (o : Option WorkerRow) → is_current (option_map (register_record v) o) session ≡ option_map_or (λ w. w.alive && (eqb w.session session)) o false
+pub current_exact : (v : View) (session : ℕ) (o : Option WorkerRow) → is_current (option_map (register_record v) o) session ≡ option_map_or (λ w. w.alive && (eqb w.session session)) o false
 current_exact v session None = refl
 current_exact v session (Some w) = refl
 
@@ -210,10 +210,10 @@ module _ (setup : Setup) (s : AllRecords) (t : Table) (a : AgreeWith setup s (vi
       let k = in_filter (is_of_file file) t.opens o i in
       subst (IsDeclared setup.files) (eqb-true o.file file k.1) (all_of (IsOpenRow setup) t.opens sets.opens o k.0).file.declared
 
-  no_opens : (file : ℕ) → declared_at setup.files file ≡ None → (view t).opens_of file ≡ []
+  pub no_opens : (file : ℕ) → declared_at setup.files file ≡ None → (view t).opens_of file ≡ []
   no_opens file e = none_in (filter (is_of_file file) t.opens) (λ o i. not_declared setup.files file e (open_declared file o i))
 
-  no_ranges : (file : ℕ) → declared_at setup.files file ≡ None → (view t).ranges_of file ≡ []
+  pub no_ranges : (file : ℕ) → declared_at setup.files file ≡ None → (view t).ranges_of file ≡ []
   no_ranges file e = none_in (filter (is_range_of file) t.ranges) (λ r i.
       let k = in_filter (is_range_of file) t.ranges r i in
       not_declared setup.files file e (subst (IsDeclared setup.files) (eqb-true r.file file k.1) (all_of (IsRangeRow setup) t.ranges sets.ranges r k.0).file.declared))
@@ -243,7 +243,7 @@ module _ (setup : Setup) (s : AllRecords) (t : Table) (a : AgreeWith setup s (vi
 
   -- ---- opens, ranges and watches
 
-  entries_are : (file : ℕ) → valid_entries s file ≡ map entry_of ((view t).opens_of file)
+  pub entries_are : (file : ℕ) → valid_entries s file ≡ map entry_of ((view t).opens_of file)
   entries_are file =
       sym (entries_clean (deciding s) file (s.shares file))
       ∙ ap (part_of (λ (x : ShareRec). x.entries)) (a.shares file)

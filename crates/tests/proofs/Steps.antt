@@ -8,7 +8,7 @@ use Rattle.sid_core.specs.declared.entry.Entry.{Entry}
 use Rattle.sid_core.specs.declared.entry.Event.TheVariants.{Tidied}
 use Rattle.chain_map.specs.Pairs.{Pairs}
 use Rattle.turn_types.specs.Journal.{Chains}
-use Rattle.turn_types.specs.Shown.{Shown, Plan, Numbered, IsPart, replay, look, or_else, planned, due, is_made, hold, left_over, Made, Committed}
+use Rattle.turn_types.specs.Shown.{Shown, Plan, Numbered, IsPart, replay, look, or_else, planned, due, is_made, hold, left_over, RisesFrom, Within, Made, Committed}
 use Rattle.turn_types.specs.Calls.{Fits, Stands, Planned, Stored, Released}
 use Rattle.turn_types.specs.declared.looked.Looked.{Looked}
 use Rattle.tests.specs.Counting.{added, chain_of_entry, counted}
@@ -71,6 +71,14 @@ fits_add w x y z by seq held made parts mine next = record {
 
   at_second : get_elem? k (x + 1) ≡ some z
   at_second = parts (x + 1) z second
+
+-- what both chains that were read become may be planned
+pub fits_both : {R : Type 0} (v w : Shown R) (x : ℕ) (y z : Pairs) (new : Numbered) → new ≡ two x (counted y) (counted z) → At v x (stage.ReadBoth y z) w
+    → RisesFrom 0 new × Within new w.held
+fits_both v w x y z new is a = subst (λ (t : Numbered). RisesFrom 0 t × Within t w.held) (sym is) (
+  (omega arith, (omega arith, tt)),
+  ((y, ap (look x) a.1 ∙ first_of x y z), ((z, ap (look (x + 1)) a.1 ∙ second_of x y z), tt)),
+)
 
 -- what both chains that were read become is planned
 pub planned_both : {R : Type 0} (v w u : Shown R) (x : ℕ) (y z : Pairs) (new : Numbered) → new ≡ two x (counted y) (counted z) → Planned w u new

@@ -22,10 +22,14 @@ mod data;
 #[cfg(test)]
 mod lines;
 #[cfg(test)]
+mod locks;
+#[cfg(test)]
 mod records;
 #[cfg(test)]
 mod run;
 #[cfg(test)]
 mod script;
+#[cfg(test)]
+mod shares;
 #[cfg(test)]
 mod table;

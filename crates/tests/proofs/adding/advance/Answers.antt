@@ -1,11 +1,16 @@
 use Rattle.std.proofs.Common.{◌+◌, ap, subst}
 use Rattle.tests.specs.Adding.{At}
 use Rattle.tests.specs.declared.adding.Stage.{Stage}
-use Rattle.tests.proofs.Steps.{planned_both, fits_add, placed, stored_one, stored_both, gave_one, gave_both}
+use Rattle.tests.proofs.Steps.{fits_both, planned_both, fits_add, placed, stored_one, stored_both, gave_one, gave_both}
 use Rattle.tests.proofs.adding.advance.Goals as goal
 
 pub returns-in_err-new-in-ReadBoth-clause-beside : goal.returns-in_err-new-in-ReadBoth-clause-beside
 returns-in_err-new-in-ReadBoth-clause-beside g c = c.calls_in_a_row.ensures.none (g.C.Cells.shown c.args.cells.now) (g.C.Cells.beside c.args.cells.now) (g.C.Cells.tells c.args.cells.now)
+
+pub plan-requires-clause-new : goal.plan-requires-clause-new
+plan-requires-clause-new g c =
+    let w = g.C.Cells.shown c.args.cells.now in let v = c.requires.at.0 in
+    fits_both v w c.args.c _ _ _ c.in_ok-new-in-ReadBoth.ensures (subst (λ (s : Stage). At v c.args.c s w) c.in-ReadBoth.is c.requires.at.1)
 
 pub returns-in_ok-new-in-ReadBoth-clause-at : goal.returns-in_ok-new-in-ReadBoth-clause-at
 returns-in_ok-new-in-ReadBoth-clause-at g c = λ v at.

@@ -1,0 +1,4 @@
+pub mod ByOwner
+pub mod Sets
+pub mod Settling
+mod BreakExamples

@@ -1,0 +1,5 @@
+pub mod InTheWay
+pub mod Once
+pub mod Kept
+pub mod EntryExamples
+mod SharingExamples

@@ -1,0 +1,54 @@
+-- What it means that an entry keeps what the databases stand for.
+use Rattle.std.specs.Prelude.{◌≡◌, ℕ, ◌==◌, ◌&&◌, false, List, [], ◌∷◌, ◌++◌, Option, Some}
+use Rattle.std.specs.List.{AllByRecursion}
+use Rattle.sid_core.specs.declared.call.Call.{Call}
+use Rattle.sid_core.specs.declared.entry.Entry.{Entry}
+use Rattle.sid_core.specs.declared.entry.Event.TheVariants.{Called}
+use Rattle.sid_core.specs.declared.ids.Moment.{Moment}
+use Rattle.sid_core.specs.declared.ids.Sid.{Sid}
+use Rattle.sid_core.specs.Ids.{same_sid}
+use Rattle.serial_table.specs.declared.decision.Caller.{Caller}
+use Rattle.sid_core.specs.declared.reply.Reply.{Reply}
+use Rattle.sid_core.specs.declared.setup.Setup.{Setup}
+use Rattle.sid_core.specs.Setup.{IsSetup}
+use Rattle.serial_table.specs.View.{view}
+use Rattle.serial_table.specs.History.{after, IsLegal}
+use Rattle.serial_table.specs.Step.{caller_of}
+use Rattle.stored_table.specs.Decoded.{records_of}
+use Rattle.stored_table.specs.Shown.{part_of}
+use Rattle.stored_table.specs.Places.{Chains}
+use Rattle.stored_table.specs.Move.{move}
+use Rattle.stored_table.specs.Stands.{StandsFor}
+
+-- Behind a history: whatever chains stand for the table there, what the entry makes of them stands for the table after it.
+abbrev pub KeepsStanding : Setup → ℕ → List Entry → Entry → Type 0
+KeepsStanding setup n before e =
+    (k : Chains) → StandsFor setup n k (view (after setup before))
+    → StandsFor setup n (move setup n k e (view (after setup (before ++ e ∷ [])))) (view (after setup (before ++ e ∷ [])))
+
+-- a legal history's next entry does so
+abbrev pub LegalKeepsStanding : Setup → ℕ → List Entry → Entry → Type 0
+LegalKeepsStanding setup n before e = IsSetup setup → IsLegal setup (before ++ e ∷ []) → KeepsStanding setup n before e
+
+-- the entry of a call
+abbrev pub call_entry : ℕ → ℕ → ℕ → Moment → Call → Reply → Entry
+call_entry by seq number moment call reply = record { by = by; seq = seq; what = Called number moment call reply }
+
+-- ---- entries of calls that may wait
+
+-- No register record watches this call of the session yet.
+abbrev pub IsUnwatched : Setup → ℕ → Chains → Sid → ℕ → Type 0
+IsUnwatched setup n k sid call =
+    (pid : ℕ) → AllByRecursion (λ w. (same_sid sid w.sid && (call == w.call)) ≡ false) (part_of (λ r. r.watchers) ((records_of setup n k).register pid))
+
+-- Whatever chains stand for the table there, where no register record watches the call of its caller yet.
+abbrev pub KeepsStandingIfNew : Setup → ℕ → List Entry → ℕ → ℕ → Moment → Entry → Type 0
+KeepsStandingIfNew setup n before by number moment e =
+    (k : Chains) → StandsFor setup n k (view (after setup before))
+    → ((caller : Caller) → caller_of setup (view (after setup before)) by number moment ≡ Some caller → IsUnwatched setup n k caller.sid caller.number)
+    → StandsFor setup n (move setup n k e (view (after setup (before ++ e ∷ [])))) (view (after setup (before ++ e ∷ [])))
+
+abbrev pub LegalKeepsStandingIfNew : Setup → ℕ → List Entry → ℕ → ℕ → ℕ → Moment → Call → Reply → Type 0
+LegalKeepsStandingIfNew setup n before by seq number moment call reply =
+    IsSetup setup → IsLegal setup (before ++ call_entry by seq number moment call reply ∷ [])
+    → KeepsStandingIfNew setup n before by number moment (call_entry by seq number moment call reply)

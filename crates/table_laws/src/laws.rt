@@ -1,0 +1,74 @@
+//! Laws of entries and of what they leave alone: each function does nothing, and its clause is the law.
+
+ghost use Rattle.std.specs.Prelude.{◌≡◌, ℕ, false, Bool, List};
+ghost use Rattle.sid_core.specs.declared.bits.LeaseState.{LeaseState};
+ghost use Rattle.sid_core.specs.declared.call.Call.TheVariants as call;
+ghost use Rattle.sid_core.specs.declared.call.Mode.{Mode};
+ghost use Rattle.sid_core.specs.declared.call.Span.{Span};
+ghost use Rattle.sid_core.specs.declared.call.Tables.{Tables};
+ghost use Rattle.sid_core.specs.declared.entry.Entry.{Entry};
+ghost use Rattle.sid_core.specs.declared.entry.Event.TheVariants.{Tidied};
+ghost use Rattle.sid_core.specs.declared.ids.Moment.{Moment};
+ghost use Rattle.sid_core.specs.declared.reply.Reply.{Reply};
+ghost use Rattle.sid_core.specs.declared.setup.Setup.{Setup};
+ghost use Rattle.serial_table.specs.View.{View};
+ghost use Rattle.stored_table.specs.Places.{Chains, Place, HasChains, among, value_at};
+ghost use Rattle.stored_table.specs.Move.{move, places_written};
+ghost use Rattle.table_laws.specs.Reached.{ReachesUnchanged, SamePartsCount};
+ghost use Rattle.table_laws.specs.Standing.{LegalKeepsStanding, LegalKeepsStandingIfNew, call_entry};
+
+/// What counts of a record goes by the records that it reaches: where these are the same in two databases, and the record itself is, the
+/// same parts of it count. So an entry that doesn't write a record, nor changes one that it reaches, leaves what counts of it, whatever the
+/// table shows afterwards.
+pub fn what_counts_elsewhere_stays()
+    ensures alike { (setup : Setup) (n : ℕ) (k j : Chains) (p : Place) → value_at n k p ≡ value_at n j p → ReachesUnchanged setup n k j p
+        → SamePartsCount setup n k j p }
+    ensures moved { (setup : Setup) (n : ℕ) (k : Chains) (e : Entry) (v : View) (p : Place) → HasChains n k → among p (places_written setup n k e) ≡ false
+        → ReachesUnchanged setup n k (move setup n k e v) p → SamePartsCount setup n k (move setup n k e v) p }
+{}
+
+/// What is written stands for the table afterwards: `close`, `delete`, `unlock`, `read` and `write`.
+pub fn calls_by_handle_keep_standing()
+    ensures close { (setup : Setup) (n : ℕ) (before : List Entry) (by seq number : ℕ) (moment : Moment) (handle : ℕ) (reply : Reply)
+        → LegalKeepsStanding setup n before (call_entry by seq number moment (call.Close handle) reply) }
+    ensures delete { (setup : Setup) (n : ℕ) (before : List Entry) (by seq number : ℕ) (moment : Moment) (handle : ℕ) (on : Bool) (reply : Reply)
+        → LegalKeepsStanding setup n before (call_entry by seq number moment (call.Delete handle on) reply) }
+    ensures unlock { (setup : Setup) (n : ℕ) (before : List Entry) (by seq number : ℕ) (moment : Moment) (handle : ℕ) (span : Span) (reply : Reply)
+        → LegalKeepsStanding setup n before (call_entry by seq number moment (call.Unlock handle span) reply) }
+    ensures read { (setup : Setup) (n : ℕ) (before : List Entry) (by seq number : ℕ) (moment : Moment) (handle : ℕ) (span : Span) (reply : Reply)
+        → LegalKeepsStanding setup n before (call_entry by seq number moment (call.Read handle span) reply) }
+    ensures write { (setup : Setup) (n : ℕ) (before : List Entry) (by seq number : ℕ) (moment : Moment) (handle : ℕ) (span : Span) (reply : Reply)
+        → LegalKeepsStanding setup n before (call_entry by seq number moment (call.Write handle span) reply) }
+{}
+
+/// What is written stands for the table afterwards: `ack`.
+pub fn acknowledgements_keep_standing()
+    ensures { (setup : Setup) (n : ℕ) (before : List Entry) (by seq number : ℕ) (moment : Moment) (key : ℕ) (state : LeaseState) (reply : Reply)
+        → LegalKeepsStanding setup n before (call_entry by seq number moment (call.Ack key state) reply) }
+{}
+
+/// What is written stands for the table afterwards: `recv`, `gunlock`, `tidy` and `status`.
+pub fn calls_of_no_file_keep_standing()
+    ensures recv { (setup : Setup) (n : ℕ) (before : List Entry) (by seq number : ℕ) (moment : Moment) (reply : Reply)
+        → LegalKeepsStanding setup n before (call_entry by seq number moment call.Recv reply) }
+    ensures gunlock { (setup : Setup) (n : ℕ) (before : List Entry) (by seq number : ℕ) (moment : Moment) (key : ℕ) (reply : Reply)
+        → LegalKeepsStanding setup n before (call_entry by seq number moment (call.GUnlock key) reply) }
+    ensures tidy { (setup : Setup) (n : ℕ) (before : List Entry) (by seq number : ℕ) (moment : Moment) (reply : Reply)
+        → LegalKeepsStanding setup n before (call_entry by seq number moment call.Tidy reply) }
+    ensures status { (setup : Setup) (n : ℕ) (before : List Entry) (by seq number : ℕ) (moment : Moment) (tables : Tables) (reply : Reply)
+        → LegalKeepsStanding setup n before (call_entry by seq number moment (call.Status tables) reply) }
+{}
+
+/// What is written stands for the table afterwards, where no register record watches the call yet: `glock` and `lock`, which may wait.
+pub fn calls_that_wait_keep_standing()
+    ensures glock { (setup : Setup) (n : ℕ) (before : List Entry) (by seq number : ℕ) (moment : Moment) (key : ℕ) (mode : Mode) (wait : Bool) (reply : Reply)
+        → LegalKeepsStandingIfNew setup n before by seq number moment (call.GLock key mode wait) reply }
+    ensures lock { (setup : Setup) (n : ℕ) (before : List Entry) (by seq number : ℕ) (moment : Moment) (handle : ℕ) (span : Span) (mode : Mode) (wait : Bool) (reply : Reply)
+        → LegalKeepsStandingIfNew setup n before by seq number moment (call.Lock handle span mode wait) reply }
+{}
+
+/// What is written stands for the table afterwards: a tidied chain.
+pub fn tidied_chains_keep_standing()
+    ensures { (setup : Setup) (n : ℕ) (before : List Entry) (by seq chain : ℕ)
+        → LegalKeepsStanding setup n before (record { by = by; seq = seq; what = Tidied chain }) }
+{}

@@ -1,0 +1,10 @@
+//! Laws of what the databases stand for, above the definitions of what chains of records stand for: each function of this crate does
+//! nothing, and its clause is a law.
+#![tactic(auto)]
+
+mod laws;
+
+pub use laws::{
+    acknowledgements_keep_standing, calls_by_handle_keep_standing, calls_of_no_file_keep_standing,
+    calls_that_wait_keep_standing, tidied_chains_keep_standing, what_counts_elsewhere_stays,
+};
