@@ -1,5 +1,5 @@
 -- That what is answered and done is what a table decides, whoever the living caller is that shows the lock so.
-use Rattle.std.proofs.Common.{◌≡◌, ◌&&◌, ℕ, Bool, true, List, ◌++◌, filter, map, find, Option, Some, None, refl, ap, sym, subst, ◌∙◌}
+use Rattle.std.proofs.Common.{◌≡◌, ◌&&◌, ℕ, Bool, true, ◌++◌, filter, find, Option, Some, None, refl, ap, sym, subst, ◌∙◌}
 use Rattle.std.specs.Option.{option_map}
 use Rattle.std.specs.Ordering.{nat_cmp}
 use Rattle.std.specs.FinMap.{FinMap}
@@ -20,7 +20,7 @@ use Rattle.record_codec.specs.declared.mail_rec.MailRec.{MailRec}
 use Rattle.record_codec.specs.declared.register_rec.RegisterRec.{RegisterRec}
 use Rattle.record_codec.specs.Counts.{lives}
 use Rattle.server_ids.specs.Sessions.{registered}
-use Rattle.record_watch.specs.Watches.{watch_row}
+use Rattle.record_rows.specs.Rows.{watch_row}
 use Rattle.g_lock.specs.declared.answer.GAnswer.{GAnswer}
 use Rattle.g_lock.specs.declared.answer.GAnswer.TheVariants.{Granted, Lowered, NotGranted, Pending, PossibleDeadlock, OutOfMemory}
 use Rattle.g_lock.specs.Holds.{counted_holds, AsksAmong}

@@ -1,16 +1,13 @@
 -- What a table decides of a `glock`, by what it finds; and that the answer tells it.
-use Rattle.std.proofs.Common.{◌≡◌, ◌&&◌, ◌||◌, not, ℕ, Bool, true, false, cond, List, [], ◌∷◌, filter, map, find, Option, Some, None, refl, ap, sym, subst, ◌∙◌}
+use Rattle.std.proofs.Common.{◌≡◌, ◌&&◌, ◌||◌, ℕ, Bool, true, false, cond, List, [], ◌∷◌, filter, find, Option, Some, None, refl, ap, sym, ◌∙◌}
 use Rattle.std.specs.Option.{option_map, option_map_or}
 use Rattle.std.specs.List.{list_any}
-use Rattle.std.specs.Ordering.{nat_cmp}
-use Rattle.std.specs.FinMap.{FinMap}
 use Rattle.std.proofs.lemmas.Bool.{or_right}
 use Rattle.sid_core.specs.declared.ids.Sid.{Sid}
 use Rattle.sid_core.specs.declared.ids.Spot.TheVariants.{LockOf}
 use Rattle.sid_core.specs.declared.call.Mode.{Mode}
 use Rattle.sid_core.specs.declared.call.Mode.TheVariants.{Shared, Exclusive}
 use Rattle.sid_core.specs.declared.reply.Reply.TheVariants as reply
-use Rattle.sid_core.specs.Ids.{same_sid}
 use Rattle.serial_table.specs.declared.rows.HoldRow.{HoldRow}
 use Rattle.serial_table.specs.declared.rows.Watch.{Watch}
 use Rattle.serial_table.specs.declared.change.Change.TheVariants.{AddHold, SetHold}
@@ -24,9 +21,8 @@ use Rattle.serial_table.proofs.Filters.{filter_all}
 use Rattle.serial_table.proofs.Heads.{by_first, by_first_of_both}
 use Rattle.record_codec.specs.declared.watch.WatchRec.{WatchRec}
 use Rattle.record_codec.specs.declared.glock_rec.Hold.{Hold}
-use Rattle.record_watch.specs.Watches.{watch_row}
-use Rattle.g_lock.specs.Holds.{hold_row}
-use Rattle.g_lock.specs.Answer.{without_changes, told, first_owner, who_keeps_out, who_upgrades, NamesHolder, NamesOther}
+use Rattle.record_rows.specs.Rows.{watch_row, hold_row}
+use Rattle.g_lock.specs.Answer.{without_changes, told, first_owner, who_keeps_out, NamesHolder, NamesOther}
 use Rattle.g_lock.specs.Scans.{answered}
 use Rattle.g_lock.proofs.Found.{is_owned, is_others, is_upgrade}
 

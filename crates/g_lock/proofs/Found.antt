@@ -1,5 +1,5 @@
 -- What is found in a record is what a table finds that has what counts in it.
-use Rattle.std.proofs.Common.{◌≡◌, ◌&&◌, not, ℕ, Bool, true, false, cond, List, [], ◌∷◌, filter, map, find, Option, Some, None, refl, ap, sym, subst, ◌∙◌}
+use Rattle.std.proofs.Common.{◌≡◌, ◌&&◌, not, ℕ, Bool, true, false, cond, List, [], ◌∷◌, filter, find, Some, refl, ap, ◌∙◌}
 use Rattle.std.specs.Option.{option_map}
 use Rattle.std.specs.Ordering.{nat_cmp}
 use Rattle.std.specs.FinMap.{FinMap}
@@ -18,8 +18,9 @@ use Rattle.record_codec.specs.declared.mail_rec.MailRec.{MailRec}
 use Rattle.record_codec.specs.declared.register_rec.RegisterRec.{RegisterRec}
 use Rattle.record_codec.specs.Counts.{lives, hold_counts, watch_counts}
 use Rattle.server_ids.specs.Sessions.{registered}
-use Rattle.record_watch.specs.Watches.{watch_row, mailed, counted_on}
-use Rattle.g_lock.specs.Holds.{hold_row, counted_holds}
+use Rattle.record_rows.specs.Rows.{watch_row, hold_row}
+use Rattle.record_watch.specs.Watches.{mailed, counted_on}
+use Rattle.g_lock.specs.Holds.{counted_holds}
 use Rattle.g_lock.specs.Scans.{is_own, is_in_the_way, is_upgrade_beside}
 
 -- the tests of a table

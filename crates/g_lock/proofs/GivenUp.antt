@@ -17,7 +17,7 @@ use Rattle.serial_table.specs.View.{View}
 use Rattle.serial_table.specs.Change.{perform_all_by_key, is_hold}
 use Rattle.serial_table.specs.Decision.{only_reply, waits_no_more, own_waits_end}
 use Rattle.serial_table.specs.GlobalLock.{own_holds, gunlock_by, gunlock}
-use Rattle.serial_table.proofs.Filters.{filter-filter, filter_all}
+use Rattle.serial_table.proofs.Filters.{filter-filter}
 use Rattle.serial_table.proofs.Heads.{by_first}
 use Rattle.serial_table.proofs.Counting.{length_filtered}
 use Rattle.record_codec.specs.declared.glock_rec.Hold.{Hold}
@@ -27,7 +27,8 @@ use Rattle.record_codec.specs.Counts.{lives, hold_counts}
 use Rattle.record_codec.specs.Fields.{IsListOf}
 use Rattle.record_codec.specs.GLockRec.{IsHold, IsUpgradeWatch, IsGLockRec}
 use Rattle.server_ids.specs.Sessions.{registered}
-use Rattle.g_lock.specs.Holds.{hold_row, counted_holds, AsksBefore}
+use Rattle.record_rows.specs.Rows.{hold_row}
+use Rattle.g_lock.specs.Holds.{counted_holds, AsksBefore}
 use Rattle.g_lock.specs.Answer.{holds_after}
 use Rattle.g_lock.specs.Scans.{is_own}
 use Rattle.g_lock.proofs.Found.{is_owned, own_found}

@@ -1,5 +1,5 @@
 -- What becomes of the holds of a record is what becomes of those of a table.
-use Rattle.std.proofs.Common.{◌≡◌, ◌&&◌, ◌==◌, not, ℕ, ◌+◌, ◌<◌, ◌^◌, Bool, true, false, cond, List, [], ◌∷◌, ◌++◌, length, filter, map, Option, Some, None, refl, ap, sym, subst, ◌∙◌, arith, eq-eqb}
+use Rattle.std.proofs.Common.{◌≡◌, ◌&&◌, ◌==◌, not, ℕ, ◌+◌, ◌<◌, ◌^◌, Bool, true, false, cond, List, [], ◌∷◌, ◌++◌, length, filter, map, Option, Some, None, refl, ap, sym, subst, ◌∙◌, eq-eqb}
 use Rattle.std.specs.List.{AllByRecursion}
 use Rattle.std.specs.Ordering.{nat_cmp}
 use Rattle.std.specs.FinMap.{FinMap}
@@ -8,7 +8,6 @@ use Rattle.std.proofs.lemmas.List.Elements.{filter-append}
 use Rattle.sid_core.specs.declared.ids.Sid.{Sid}
 use Rattle.sid_core.specs.declared.call.Mode.{Mode}
 use Rattle.sid_core.specs.declared.call.Mode.TheVariants.{Shared, Exclusive}
-use Rattle.sid_core.specs.Ids.{same_sid}
 use Rattle.sid_core.specs.Values.{IsU32}
 use Rattle.serial_table.specs.declared.rows.HoldRow.{HoldRow}
 use Rattle.serial_table.specs.declared.rows.Watch.{Watch}
@@ -27,7 +26,8 @@ use Rattle.record_codec.specs.Fields.{IsSid, IsListOf}
 use Rattle.record_codec.specs.declared.glock_rec.GLockRec.{GLockRec}
 use Rattle.record_codec.specs.GLockRec.{IsHold, IsUpgradeWatch, IsGLockRec}
 use Rattle.server_ids.specs.Sessions.{registered}
-use Rattle.g_lock.specs.Holds.{hold_row, counted_holds, stale_holds}
+use Rattle.record_rows.specs.Rows.{hold_row}
+use Rattle.g_lock.specs.Holds.{counted_holds, stale_holds}
 use Rattle.g_lock.specs.declared.answer.GAnswer.{GAnswer}
 use Rattle.g_lock.specs.declared.answer.GAnswer.TheVariants.{Granted, Lowered, NotGranted, Pending, PossibleDeadlock, OutOfMemory}
 use Rattle.g_lock.specs.Scans.{is_own, own_in, in_mode, held_in, becomes, answered, changed, raised_behind}

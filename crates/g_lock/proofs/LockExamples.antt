@@ -1,5 +1,5 @@
 -- Worked examples: a lock with stale holds and watches. Worker 101 is in its second session and 102 in its first; 103 is dead.
-use Rattle.std.specs.Prelude.{◌≡◌, ℕ, Bool, true, false, List, [], ◌∷◌, Option, Some, None, map, filter, if◌then◌else◌, ◌==◌, refl}
+use Rattle.std.specs.Prelude.{◌≡◌, ℕ, Bool, true, false, List, [], ◌∷◌, Some, None, map, filter, if◌then◌else◌, ◌==◌, refl}
 use Rattle.sid_core.specs.declared.ids.Sid.{Sid}
 use Rattle.sid_core.specs.declared.ids.Spot.TheVariants.{LockOf}
 use Rattle.sid_core.specs.declared.call.Mode.{Mode}
@@ -17,7 +17,7 @@ use Rattle.record_codec.specs.declared.register_rec.RegisterRec.{RegisterRec}
 use Rattle.record_codec.specs.declared.mail_rec.MailRec.{MailRec}
 use Rattle.record_codec.specs.Counts.{Records, hold_counts, watch_counts}
 use Rattle.g_lock.specs.declared.answer.GAnswer.TheVariants.{Granted, Lowered, NotGranted, Pending, PossibleDeadlock}
-use Rattle.g_lock.specs.Holds.{hold_row}
+use Rattle.record_rows.specs.Rows.{hold_row}
 use Rattle.g_lock.specs.Answer.{without_changes, told, holds_after, who_keeps_out, who_upgrades}
 
 abbrev sid : ℕ → ℕ → Sid

@@ -14,9 +14,7 @@ use Rattle.record_codec.specs.declared.register_rec.RegisterRec.{RegisterRec}
 use Rattle.record_codec.specs.Counts.{lives, hold_counts}
 use Rattle.server_ids.specs.Sessions.{registered}
 use Rattle.record_watch.specs.Watches.{counted_on}
-
-abbrev pub hold_row : ℕ → Hold → HoldRow
-hold_row key hold = record { owner = hold.sid; key = key; mode = hold.mode }
+use Rattle.record_rows.specs.Rows.{hold_row}
 
 -- the holds of the lock that count
 abbrev pub counted_holds : FinMap nat_cmp RegisterRec → ℕ → List Hold → List HoldRow

@@ -1,9 +1,7 @@
 -- Worked examples: what a break and an acknowledgement make of a lease record.
 use Rattle.std.specs.Prelude.{◌≡◌, ℕ, Bool, true, false, ◌==◌, List, [], ◌∷◌, Option, Some, None, if◌then◌else◌, refl}
 use Rattle.sid_core.specs.declared.ids.Sid.{Sid}
-use Rattle.sid_core.specs.declared.ids.OpenId.{OpenId}
 use Rattle.sid_core.specs.declared.ids.LeaseName.{LeaseName}
-use Rattle.sid_core.specs.declared.ids.Moment.{Moment}
 use Rattle.sid_core.specs.declared.bits.LeaseState.{LeaseState}
 use Rattle.sid_core.specs.declared.entry.Post.{Post}
 use Rattle.sid_core.specs.declared.entry.Letter.TheVariants.{Break}
@@ -16,7 +14,7 @@ use Rattle.record_codec.specs.declared.lease_rec.LeaseRec.{LeaseRec}
 use Rattle.record_codec.specs.declared.lease_rec.LeaseRef.{LeaseRef}
 use Rattle.record_codec.specs.declared.register_rec.RegisterRec.{RegisterRec}
 use Rattle.record_codec.specs.Counts.{Records}
-use Rattle.leases_db.specs.Rows.{lease_row, breaking_of}
+use Rattle.record_rows.specs.Rows.{lease_row, breaking_of}
 use Rattle.lease_breaks.specs.Breaks.{first_connected, all_changed, settled, kept}
 use Rattle.lease_breaks.specs.Acks.{ack_by_owner}
 

@@ -1,6 +1,6 @@
 -- The record of a lease keeps its sets through breaks and acknowledgements.
 use Rattle.std.proofs.Common.{◌≡◌, ℕ, ◌+◌, ◌≤◌, ◌<◌, ◌^◌, Bool, true, false, cond, ◌==◌, ◌&&◌, not, List, [], ◌∷◌, length, filter, Option, Some, None, refl, sym, ap, ◌∙◌, subst, arith}
-use Rattle.std.specs.Prelude.{bit_and, min, is_some}
+use Rattle.std.specs.Prelude.{bit_and}
 use Rattle.std.specs.List.{AllByRecursion}
 use Rattle.std.specs.Option.{option_map_or}
 use Rattle.std.proofs.lemmas.Bool.{cond_both, and_from}
@@ -11,18 +11,18 @@ use Rattle.sid_core.specs.declared.ids.LeaseName.{LeaseName}
 use Rattle.sid_core.specs.Values.{IsMoment, IsState, is_state, is_part_of}
 use Rattle.sid_core.specs.Words.{lease_state}
 use Rattle.serial_table.specs.declared.rows.Breaking.{Breaking}
-use Rattle.serial_table.specs.Break.{Breaks, no_break, breaks_at_once, breaks_read, begins_to_break, new_breaking, until_of}
+use Rattle.serial_table.specs.Break.{Breaks, no_break, breaks_read, begins_to_break, new_breaking, until_of}
 use Rattle.serial_table.specs.LeaseBreak.{breaks_of_owner, breaks_further_by, break_by_owner}
 use Rattle.serial_table.proofs.States.{state_and, part_itself, part_and, less_and, part_less}
 use Rattle.record_codec.specs.declared.lease_rec.LeaseRec.{LeaseRec}
 use Rattle.record_codec.specs.declared.lease_rec.LeaseRef.{LeaseRef}
 use Rattle.record_codec.specs.Fields.{IsListOf, is_proper_part_of}
 use Rattle.record_codec.specs.LeaseRec.{IsLeaseRec, IsLeaseRef, IsExpiry}
-use Rattle.record_codec.specs.Counts.{Records, is_unanswered, ref_counts, settled_refs, with_refs}
+use Rattle.record_codec.specs.Counts.{Records, is_unanswered, ref_counts, settled_refs}
 use Rattle.sid_core.specs.declared.reply.Reply.TheVariants.{RequestNotAccepted}
 use Rattle.serial_table.specs.declared.decision.Decision.{Decision}
 use Rattle.serial_table.specs.Decision.{only_reply}
-use Rattle.leases_db.specs.Rows.{lease_row, breaking_of}
+use Rattle.record_rows.specs.Rows.{lease_row, breaking_of}
 use Rattle.lease_breaks.specs.Breaks.{with_state, settled, all_changed, kept}
 use Rattle.lease_breaks.specs.Acks.{ack_by_owner, accept_by_owner, Answers}
 use Rattle.lease_breaks.specs.declared.acks.Acked.{Acked}

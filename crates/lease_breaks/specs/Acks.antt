@@ -15,7 +15,7 @@ use Rattle.serial_table.specs.LeaseBreak.{letters, break_by_owner}
 use Rattle.serial_table.specs.Ack.{acknowledged, accept}
 use Rattle.record_codec.specs.declared.lease_rec.LeaseRec.{LeaseRec}
 use Rattle.record_codec.specs.Counts.{Records}
-use Rattle.leases_db.specs.Rows.{breaking_of}
+use Rattle.record_rows.specs.Rows.{breaking_of}
 use Rattle.lease_breaks.specs.Breaks.{all_changed, settled}
 use Rattle.lease_breaks.specs.declared.acks.Acked.{Acked}
 use Rattle.lease_breaks.specs.declared.acks.Acked.TheVariants.{Unsuccessful, NotAccepted, Taken}

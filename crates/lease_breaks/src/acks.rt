@@ -5,7 +5,7 @@ ghost use Rattle.serial_table.specs.Break.{first_owner, connected_under};
 ghost use Rattle.serial_table.specs.Ack.{ack_lease};
 ghost use Rattle.record_codec.specs.LeaseRec.{IsLeaseRec};
 ghost use Rattle.server_ids.specs.Sessions.{registered};
-ghost use Rattle.leases_db.specs.Rows.{lease_row, breaking_of};
+ghost use Rattle.record_rows.specs.Rows.{lease_row, breaking_of};
 ghost use Rattle.lease_breaks.specs.Breaks.{first_connected};
 ghost use Rattle.lease_breaks.specs.Acks.{ack_by_owner, accept_by_owner, Answers};
 

@@ -7,7 +7,7 @@ ghost use Rattle.serial_table.specs.LeaseBreak.{breaks_of_owner, breaks_further_
 ghost use Rattle.record_codec.specs.LeaseRec.{IsLeaseRec};
 ghost use Rattle.record_codec.specs.Counts.{Records};
 ghost use Rattle.server_ids.specs.Sessions.{registered};
-ghost use Rattle.leases_db.specs.Rows.{lease_row, breaking_of};
+ghost use Rattle.record_rows.specs.Rows.{lease_row, breaking_of};
 ghost use Rattle.lease_breaks.specs.Breaks.{first_connected, kept, Does};
 
 use crate::states::{

@@ -4,7 +4,7 @@ ghost use Rattle.std.specs.Option.{option_map};
 ghost use Rattle.sid_core.specs.Values.{has, is_part_of};
 ghost use Rattle.record_codec.specs.Counts as counts;
 ghost use Rattle.server_ids.specs.Sessions.{registered};
-ghost use Rattle.leases_db.specs.Rows.{breaking_of};
+ghost use Rattle.record_rows.specs.Rows.{breaking_of};
 ghost use Rattle.lease_breaks.specs.Breaks.{with_state, first_connected, without_stale, settled};
 
 use bitflags::Flags;

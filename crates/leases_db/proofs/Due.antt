@@ -1,18 +1,17 @@
 -- A break that expires.
-use Rattle.std.proofs.Common.{◌≡◌, ◌&&◌, ◌==◌, ℕ, Bool, true, false, cond, Option, Some, None, refl, ap, sym, ◌∙◌, eq-eqb}
+use Rattle.std.proofs.Common.{◌≡◌, ◌&&◌, ◌==◌, ℕ, Bool, true, false, cond, Some, None, refl, ap, sym, ◌∙◌, eq-eqb}
 use Rattle.std.specs.Prelude.{nat_le}
 use Rattle.std.proofs.lemmas.Bool.{and_parts}
 use Rattle.sid_core.specs.declared.bits.LeaseState.{LeaseState}
 use Rattle.sid_core.specs.declared.ids.LeaseName.{LeaseName}
 use Rattle.sid_core.specs.declared.ids.Moment.{Moment}
 use Rattle.sid_core.specs.Ids.{same_name}
-use Rattle.serial_table.specs.declared.rows.LeaseRow.{LeaseRow}
 use Rattle.serial_table.specs.Change.{set_lease}
 use Rattle.serial_table.specs.Expire.{is_due, needed_of}
 use Rattle.serial_table.proofs.SameIds.{same_name-refl}
 use Rattle.record_codec.specs.declared.lease_rec.LeaseRec.{LeaseRec}
 use Rattle.leases_db.specs.Breaks.{broken}
-use Rattle.leases_db.specs.Rows.{breaking_of, lease_row}
+use Rattle.record_rows.specs.Rows.{lease_row}
 
 due_by : (b : Bool) (name : LeaseName) (file : ℕ) (held asked needed : LeaseState) (until : ℕ) (now : Moment)
     → (b && nat_le until now.0) ≡ is_due now (record { name = name; file = file; held = held; breaking = cond b (Some (record { asked = asked; needed = needed; until = record { 0 = until } })) None })

@@ -1,5 +1,5 @@
 -- A lease that an open is granted, by its record.
-use Rattle.std.proofs.Common.{◌≡◌, ◌&&◌, ◌==◌, not, ℕ, Bool, true, false, cond, List, [], ◌∷◌, ◌++◌, filter, map, Option, Some, None, refl, ap, sym, subst, ◌∙◌, eq-eqb}
+use Rattle.std.proofs.Common.{◌≡◌, ◌&&◌, ◌==◌, not, ℕ, Bool, true, false, cond, List, [], ◌∷◌, ◌++◌, map, Option, Some, None, refl, ap, sym, subst, ◌∙◌, eq-eqb}
 use Rattle.std.specs.Prelude.{is_none, bit_and, bit_or}
 use Rattle.std.specs.List.{list_any, AllByRecursion}
 use Rattle.sid_core.specs.declared.bits.LeaseState.{LeaseState}
@@ -10,17 +10,17 @@ use Rattle.sid_core.specs.Words.{lease_state}
 use Rattle.serial_table.specs.declared.rows.LeaseRow.{LeaseRow}
 use Rattle.serial_table.specs.declared.rows.Breaking.{Breaking}
 use Rattle.serial_table.specs.Asked.{asked_of}
-use Rattle.serial_table.specs.View.{has_name}
 use Rattle.serial_table.specs.Change.{set_lease}
 use Rattle.serial_table.specs.File.{FileView}
 use Rattle.serial_table.specs.Local.{perform_all_in_file}
 use Rattle.serial_table.specs.Break.{sets_lease, all_but_write}
 use Rattle.serial_table.specs.Grant as table
-use Rattle.serial_table.specs.Grant.{LeaseGrant, is_beside, allowed, grant_lease, is_durable}
+use Rattle.serial_table.specs.Grant.{LeaseGrant, is_beside, grant_lease, is_durable}
 use Rattle.serial_table.proofs.SameIds.{same_name-refl}
 use Rattle.record_codec.specs.declared.lease_rec.LeaseRef.{LeaseRef}
 use Rattle.record_codec.specs.declared.lease_rec.LeaseRec.{LeaseRec}
-use Rattle.leases_db.specs.Rows.{breaking_of, lease_row, rows_with, leases_by}
+use Rattle.record_rows.specs.Rows.{breaking_of, lease_row}
+use Rattle.leases_db.specs.Rows.{rows_with, leases_by}
 use Rattle.leases_db.specs.Refs.{refs_of}
 use Rattle.leases_db.specs.Granted.{OpenAsk, asked_name, AsksLease}
 use Rattle.leases_db.specs.Granting.{may_hold, new_lease, grows, old_lease, lease_with, lease_by, stays_durable}

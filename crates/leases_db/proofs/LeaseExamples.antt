@@ -1,5 +1,5 @@
 -- Worked examples: how leases settle, expire and grow. Worker 101 lives in session 2, and 102 is dead.
-use Rattle.std.specs.Prelude.{◌≡◌, ℕ, Bool, true, false, List, [], ◌∷◌, Option, Some, None, filter, if◌then◌else◌, ◌==◌, refl}
+use Rattle.std.specs.Prelude.{◌≡◌, ℕ, Bool, true, false, List, [], ◌∷◌, Some, None, if◌then◌else◌, ◌==◌, refl}
 use Rattle.sid_core.specs.declared.bits.LeaseState.{LeaseState}
 use Rattle.sid_core.specs.declared.ids.LeaseName.{LeaseName}
 use Rattle.record_codec.specs.declared.lease_rec.LeaseRef.{LeaseRef}
@@ -8,7 +8,8 @@ use Rattle.record_codec.specs.declared.register_rec.RegisterRec.{RegisterRec}
 use Rattle.record_codec.specs.Counts.{Records, settled_refs, with_refs}
 use Rattle.serial_table.specs.Expire.{is_due, needed_of}
 use Rattle.leases_db.specs.Breaks.{broken}
-use Rattle.leases_db.specs.Rows.{lease_row, lease_rows}
+use Rattle.record_rows.specs.Rows.{lease_row}
+use Rattle.leases_db.specs.Rows.{lease_rows}
 use Rattle.leases_db.specs.Refs.{without, other_file}
 use Rattle.leases_db.specs.Granting.{may_hold, lease_by, stays_durable, new_ref}
 

@@ -1,6 +1,6 @@
 -- The lease of another file.
-use Rattle.std.proofs.Common.{◌≡◌, ◌==◌, not, ℕ, Bool, true, false, cond, List, [], ◌∷◌, find, Option, Some, None, refl, ap, sym, ◌∙◌}
-use Rattle.std.specs.Option.{option_map, option_map_or, is_some}
+use Rattle.std.proofs.Common.{◌≡◌, ◌==◌, not, ℕ, Bool, true, false, cond, List, [], ◌∷◌, find, Some, None, refl, ap, sym, ◌∙◌}
+use Rattle.std.specs.Option.{option_map, is_some}
 use Rattle.std.specs.List.{list_any}
 use Rattle.sid_core.specs.declared.ids.LeaseName.{LeaseName}
 use Rattle.serial_table.specs.declared.rows.LeaseRow.{LeaseRow}
@@ -9,7 +9,8 @@ use Rattle.serial_table.specs.Asked.{asked_of, is_elsewhere}
 use Rattle.leases_db.specs.Granted.{OpenAsk, asked_name}
 use Rattle.record_codec.specs.declared.lease_rec.LeaseRef.{LeaseRef}
 use Rattle.record_codec.specs.declared.lease_rec.LeaseRec.{LeaseRec}
-use Rattle.leases_db.specs.Rows.{lease_row, rows_with, leases_by}
+use Rattle.record_rows.specs.Rows.{lease_row}
+use Rattle.leases_db.specs.Rows.{rows_with, leases_by}
 use Rattle.leases_db.specs.Refs.{file_unless, other_file}
 
 abbrev pub beside : ℕ → LeaseRow → Bool

@@ -1,5 +1,5 @@
 -- A record that settles is a lease that settles with its opens.
-use Rattle.std.proofs.Common.{◌≡◌, ◌&&◌, ◌||◌, ◌==◌, not, ℕ, Bool, true, false, cond, List, [], ◌∷◌, filter, map, Option, Some, None, refl, ap, sym, subst, ◌∙◌}
+use Rattle.std.proofs.Common.{◌≡◌, ◌&&◌, ◌||◌, ◌==◌, not, ℕ, Bool, true, false, cond, List, [], ◌∷◌, filter, map, Option, Some, None, refl, ap, sym, ◌∙◌}
 use Rattle.std.specs.Option.{option_map_or}
 use Rattle.std.specs.List.{list_any}
 use Rattle.std.specs.Ordering.{nat_cmp}
@@ -20,7 +20,8 @@ use Rattle.record_codec.specs.declared.register_rec.RegisterRec.{RegisterRec}
 use Rattle.record_codec.specs.Counts.{Records, is_connected, is_unanswered, settled_state, ref_counts, settled_refs, with_refs}
 use Rattle.server_ids.specs.Sessions.{registered}
 use Rattle.leases_db.specs.Breaks.{broken}
-use Rattle.leases_db.specs.Rows.{breaking_of, lease_row, rows_with, lease_rows, Told, told_by_open, told_by_ref, told_under, outlasts, HasLease}
+use Rattle.record_rows.specs.Rows.{breaking_of, lease_row}
+use Rattle.leases_db.specs.Rows.{rows_with, lease_rows, Told, told_by_open, told_by_ref, told_under, outlasts, HasLease}
 use Rattle.leases_db.proofs.Lists.{filter_of_map, any_of_map, filter_alike, filter_of_filter, any_of_filter}
 
 -- ---- tests

@@ -3,23 +3,16 @@ use Rattle.std.specs.Prelude.{◌≡◌, ℕ, Bool, not, ◌||◌, ◌==◌, Lis
 use Rattle.std.specs.Ordering.{nat_cmp}
 use Rattle.std.specs.FinMap.{FinMap}
 use Rattle.sid_core.specs.declared.ids.LeaseName.{LeaseName}
-use Rattle.serial_table.specs.declared.rows.OpenRow.{OpenRow}
 use Rattle.serial_table.specs.declared.rows.LeaseRow.{LeaseRow}
-use Rattle.serial_table.specs.declared.rows.Breaking.{Breaking}
 use Rattle.serial_table.specs.File.{FileView, FileOpen, is_under}
 use Rattle.record_codec.specs.declared.lease_rec.LeaseRef.{LeaseRef}
 use Rattle.record_codec.specs.declared.lease_rec.LeaseRec.{LeaseRec}
 use Rattle.record_codec.specs.declared.register_rec.RegisterRec.{RegisterRec}
 use Rattle.record_codec.specs.Counts.{is_connected}
 use Rattle.server_ids.specs.Sessions.{registered}
+use Rattle.record_rows.specs.Rows.{lease_row, ref_of}
 
 -- ---- the lease
-
-abbrev pub breaking_of : LeaseRec → Option Breaking
-breaking_of rec = if rec.breaking then Some (record { asked = rec.asked; needed = rec.needed; until = record { 0 = rec.until } }) else None
-
-abbrev pub lease_row : LeaseName → LeaseRec → LeaseRow
-lease_row name rec = record { name = name; file = rec.file; held = rec.held; breaking = breaking_of rec }
 
 -- A record without references is no lease.
 abbrev pub rows_with : LeaseName → LeaseRec → List LeaseRef → List LeaseRow
@@ -40,9 +33,6 @@ leases_by name (Some rec) = lease_rows name rec
 pub record Told : Type 0 where
   pub ref : LeaseRef
   pub connected : Bool
-
-abbrev pub ref_of : OpenRow → LeaseRef
-ref_of open_row = record { id = open_row.id; owner = open_row.owner; durable = open_row.durable }
 
 abbrev pub told_by_open : FileOpen → Told
 told_by_open o = record { ref = ref_of o.row; connected = o.connected }

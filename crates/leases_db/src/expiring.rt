@@ -4,7 +4,7 @@ ghost use Rattle.serial_table.specs.Change.{set_lease};
 ghost use Rattle.serial_table.specs.Expire.{is_due, needed_of};
 ghost use Rattle.record_codec.specs.LeaseRec.{IsLeaseRec};
 ghost use Rattle.leases_db.specs.Breaks.{broken};
-ghost use Rattle.leases_db.specs.Rows.{lease_row};
+ghost use Rattle.record_rows.specs.Rows.{lease_row};
 
 use crate::settling::end_break;
 use record_codec::LeaseRec;

@@ -5,10 +5,10 @@ ghost use Rattle.serial_table.specs.File.{FileView};
 ghost use Rattle.serial_table.specs.Local.{perform_all_in_file};
 ghost use Rattle.serial_table.specs.Grant.{grant_lease, is_durable};
 ghost use Rattle.record_codec.specs.LeaseRec.{IsLeaseRec, IsLeaseRef};
-ghost use Rattle.leases_db.specs.Rows.{lease_row};
+ghost use Rattle.record_rows.specs.Rows.{lease_row};
 ghost use Rattle.leases_db.specs.Refs.{refs_of};
 ghost use Rattle.leases_db.specs.Granted.{OpenAsk, asked_name, AsksLease, IsRecord};
-ghost use Rattle.leases_db.specs.Granting.{may_hold, new_lease, grows, old_lease, lease_with, lease_by, stays_durable, new_ref, with_ref};
+ghost use Rattle.leases_db.specs.Granting.{may_hold, new_lease, old_lease, lease_with, lease_by, stays_durable, new_ref, with_ref};
 
 use bitflags::Flags;
 use record_codec::{LeaseRec, LeaseRef};

@@ -16,7 +16,7 @@ use Rattle.serial_table.specs.declared.rows.Watch.{Watch}
 use Rattle.record_codec.specs.declared.watch.WatchRec.{WatchRec}
 use Rattle.record_codec.specs.declared.mail_rec.Token.{Token}
 use Rattle.record_codec.specs.declared.mail_rec.MailRec.{MailRec}
-use Rattle.record_watch.specs.Watches.{watch_row}
+use Rattle.record_rows.specs.Rows.{watch_row}
 use Rattle.record_watch.specs.Mails.{receiver, still_waits, without_waits, with_letter, ChangesEach}
 
 -- ---- results and options

@@ -1,15 +1,14 @@
 -- Worked examples: which watches count, and which tokens stay once calls are woken.
-use Rattle.std.specs.Prelude.{◌≡◌, ℕ, Bool, true, false, List, [], ◌∷◌, Option, Some, None, map, filter, if◌then◌else◌, ◌==◌, refl}
+use Rattle.std.specs.Prelude.{◌≡◌, ℕ, true, false, List, [], ◌∷◌, Some, None, map, filter, if◌then◌else◌, ◌==◌, refl}
 use Rattle.sid_core.specs.declared.ids.Sid.{Sid}
-use Rattle.sid_core.specs.declared.ids.Spot.{Spot}
 use Rattle.sid_core.specs.declared.ids.Spot.TheVariants.{OpenOf, RangesOf}
-use Rattle.sid_core.specs.declared.entry.Post.{Post}
 use Rattle.sid_core.specs.declared.entry.Letter.TheVariants.{Wake}
 use Rattle.serial_table.specs.Wake.{wake}
 use Rattle.record_codec.specs.declared.watch.WatchRec.{WatchRec}
 use Rattle.record_codec.specs.declared.mail_rec.MailRec.{MailRec}
 use Rattle.record_codec.specs.Counts.{Records, watch_counts, register_watch_counts}
-use Rattle.record_watch.specs.Watches.{watch_row, waiter, with_watch, with_watch_behind, with_token}
+use Rattle.record_rows.specs.Rows.{watch_row}
+use Rattle.record_watch.specs.Watches.{waiter, with_watch}
 use Rattle.record_watch.specs.Mails.{without_waits, with_letter, without_spot, without_first}
 
 abbrev sid : ℕ → ℕ → Sid

@@ -1,5 +1,5 @@
 -- Watches and tokens of records as a table has them.
-use Rattle.std.specs.Prelude.{ℕ, Bool, false, List, [], ◌∷◌, ◌++◌, filter, map, None}
+use Rattle.std.specs.Prelude.{ℕ, Bool, List, [], ◌∷◌, ◌++◌, filter, map, None}
 use Rattle.std.specs.Ordering.{nat_cmp}
 use Rattle.std.specs.FinMap as map
 use Rattle.std.specs.FinMap.{FinMap}
@@ -10,21 +10,11 @@ use Rattle.serial_table.specs.declared.rows.Watch.{Watch}
 use Rattle.serial_table.specs.View as table
 use Rattle.serial_table.specs.View.{watch_on, watch_behind, token_of}
 use Rattle.record_codec.specs.declared.watch.WatchRec.{WatchRec}
-use Rattle.record_codec.specs.declared.mail_rec.Token.{Token}
 use Rattle.record_codec.specs.declared.mail_rec.MailRec.{MailRec}
 use Rattle.record_codec.specs.declared.register_rec.RegisterRec.{RegisterRec}
 use Rattle.record_codec.specs.Counts.{Records, watch_counts, register_watch_counts}
-
--- ---- rows as parts of records
-
-abbrev pub watch_rec : Watch → WatchRec
-watch_rec w = record { sid = w.sid; call = w.call; upgrade = w.upgrade }
-
-abbrev pub watch_row : WatchRec → Watch
-watch_row w = record { sid = w.sid; call = w.call; upgrade = w.upgrade }
-
-abbrev pub token_rec : table.Token → Token
-token_rec t = record { spot = t.spot; call = t.call }
+use Rattle.record_rows.specs.Rows.{watch_of, watch_row}
+use Rattle.record_rows.specs.Rows as rows
 
 -- ---- a call that waits
 
@@ -34,18 +24,18 @@ waiter sid spot call upgrade = record { sid = sid; call = call; spot = spot; blo
 
 -- the list of the spot
 abbrev pub with_watch : WaiterRow → List WatchRec → List WatchRec
-with_watch w list = list ++ watch_rec (watch_on w.spot w) ∷ []
+with_watch w list = list ++ watch_of (watch_on w.spot w) ∷ []
 
 abbrev pub with_one_watch : WatchRec → RegisterRec → RegisterRec
 with_one_watch watch rec = record rec { watchers = rec.watchers ++ watch ∷ [] }
 
 -- the record of the session in its way
 abbrev pub with_watch_behind : WaiterRow → RegisterRec → RegisterRec
-with_watch_behind w = with_one_watch (watch_rec (watch_behind w))
+with_watch_behind w = with_one_watch (watch_of (watch_behind w))
 
 -- its session's mailbox
 abbrev pub with_token : WaiterRow → MailRec → MailRec
-with_token w mail = record mail { tokens = mail.tokens ++ token_rec (token_of w) ∷ [] }
+with_token w mail = record mail { tokens = mail.tokens ++ rows.token_of (token_of w) ∷ [] }
 
 -- ---- which watches count
 

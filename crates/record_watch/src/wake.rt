@@ -4,7 +4,8 @@ ghost use Rattle.std.specs.List.{list_any};
 ghost use Rattle.sid_core.specs.Ids.{same_spot};
 ghost use Rattle.serial_table.specs.Wake.{wake};
 ghost use Rattle.record_codec.specs.Counts as counts;
-ghost use Rattle.record_watch.specs.Watches.{watch_row, mailed, counted_on, counted_behind};
+ghost use Rattle.record_rows.specs.Rows.{watch_row};
+ghost use Rattle.record_watch.specs.Watches.{mailed, counted_on, counted_behind};
 ghost use Rattle.record_watch.specs.Mails.{without_waits, ChangesEach};
 
 use crate::mails::{Mails, take};

@@ -1,10 +1,10 @@
 ghost use Rattle.std.specs.Prelude.{◌≡◌, ◌++◌, ◌∷◌, [], OnOk};
 ghost use Rattle.std.specs.Option.{option_map, option_copied_mut};
 ghost use Rattle.std.specs.List.{list_any};
-ghost use Rattle.sid_core.specs.Ids.{same_spot};
-ghost use Rattle.serial_table.specs.View.{is_lock, watch_on, watch_behind, token_of};
+ghost use Rattle.serial_table.specs.View.{is_lock, watch_on};
 ghost use Rattle.record_watch.specs.Left.{left};
-ghost use Rattle.record_watch.specs.Watches.{watch_rec, token_rec, waiter, with_watch, with_watch_behind, with_one_watch, with_token};
+ghost use Rattle.record_rows.specs.Rows.{watch_of};
+ghost use Rattle.record_watch.specs.Watches.{waiter, with_watch, with_watch_behind, with_one_watch, with_token};
 
 use record_codec::{MailRec, RegisterRec, Token, WatchRec};
 use sid_core::{Items, OutOfMemory, Sid, Spot};
@@ -16,7 +16,7 @@ fn is_lock(spot: Spot) -> bool
 }
 
 fn watch_on(sid: Sid, spot: Spot, call: u32, upgrade: bool) -> WatchRec
-    ensures { result ≡ watch_rec (watch_on spot (waiter sid spot call upgrade)) }
+    ensures { result ≡ watch_of (watch_on spot (waiter sid spot call upgrade)) }
 {
     WatchRec {
         sid,

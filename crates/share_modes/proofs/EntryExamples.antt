@@ -8,7 +8,8 @@ use Rattle.record_codec.specs.declared.register_rec.RegisterRec.{RegisterRec}
 use Rattle.record_codec.specs.declared.share_rec.ShareEntry.{ShareEntry}
 use Rattle.record_codec.specs.declared.share_rec.ShareRec.{ShareRec}
 use Rattle.record_codec.specs.Counts.{Records, entry_counts}
-use Rattle.share_modes.specs.Entries.{open_row, with_entry, without_open}
+use Rattle.record_rows.specs.Rows.{open_row}
+use Rattle.share_modes.specs.Entries.{with_entry, without_open}
 
 -- pid 101 lives in its session 2, pid 102 has died in its session 1, and no other pid has a record
 abbrev pub register : ℕ → Option RegisterRec

@@ -21,7 +21,7 @@ use Rattle.record_codec.specs.declared.lease_rec.LeaseRef.{LeaseRef}
 use Rattle.record_codec.specs.declared.lease_rec.LeaseRec.{LeaseRec}
 use Rattle.record_codec.specs.Counts.{Records, lives}
 use Rattle.leases_db.specs.Rows.{rows_with, leases_by}
-use Rattle.share_modes.specs.Entries.{open_row}
+use Rattle.record_rows.specs.Rows.{open_row}
 use Rattle.share_modes.specs.Sharing as specs
 use Rattle.share_modes.specs.Sharing.{is_refused, Meets, IsBreaks, OpenCall, AsksLease, conflicting, refuses, shown, has_refs, keeps_handle, entry_conflicts, is_held_under, is_own_held, refuses_under, entry_refuses, first_refusal, conflict_lease}
 use Rattle.share_modes.specs.declared.asked.Asked.{Asked}

@@ -7,7 +7,8 @@ use Rattle.serial_table.specs.Change.{is_other_open}
 use Rattle.record_codec.specs.declared.share_rec.ShareEntry.{ShareEntry}
 use Rattle.record_codec.specs.declared.share_rec.ShareRec.{ShareRec}
 use Rattle.record_codec.specs.ShareRec.{IsShareEntry, IsShareRec}
-use Rattle.share_modes.specs.Entries.{open_row, with_entry, other_open, without_open}
+use Rattle.record_rows.specs.Rows.{open_row}
+use Rattle.share_modes.specs.Entries.{with_entry, other_open, without_open}
 use Rattle.share_modes.proofs.InTheWay.{filtered_in_map}
 
 module _ {X : Type 0} where

@@ -5,7 +5,6 @@ use Rattle.std.specs.FinMap as map
 use Rattle.std.specs.FinMap.{FinMap}
 use Rattle.sid_core.specs.declared.ids.OpenId.{OpenId}
 use Rattle.sid_core.specs.Ids.{same_id}
-use Rattle.serial_table.specs.declared.rows.OpenRow.{OpenRow}
 use Rattle.record_codec.specs.declared.share_rec.ShareEntry.{ShareEntry}
 use Rattle.record_codec.specs.declared.share_rec.ShareRec.{ShareRec}
 use Rattle.record_codec.specs.declared.lease_rec.LeaseRec.{LeaseRec}
@@ -20,21 +19,6 @@ known leases register = record { register = map.get register; mail = λ _. None;
 -- the lease records alone
 abbrev pub leased : FinMap name_cmp LeaseRec → Records
 leased leases = record { register = λ _. None; mail = λ _. None; lease = map.get leases; share = λ _. None }
-
--- an entry of this file's record as a table has it
-abbrev pub open_row : ℕ → ShareEntry → OpenRow
-open_row file e = record {
-  id = e.id;
-  owner = e.owner;
-  handle = e.handle;
-  file = file;
-  access = e.access;
-  share = e.share;
-  lease = e.lease;
-  durable = e.durable;
-  opened = record { 0 = e.opened };
-  marked = e.marked;
-}
 
 -- a new open comes behind the others
 abbrev pub with_entry : ShareEntry → ShareRec → ShareRec

@@ -20,7 +20,7 @@ use Rattle.record_codec.specs.declared.lease_rec.LeaseRef.{LeaseRef}
 use Rattle.record_codec.specs.declared.lease_rec.LeaseRec.{LeaseRec}
 use Rattle.record_codec.specs.Counts.{Records, lives}
 use Rattle.leases_db.specs.Rows.{leases_by}
-use Rattle.share_modes.specs.Entries.{open_row}
+use Rattle.record_rows.specs.Rows.{open_row}
 use Rattle.share_modes.specs.declared.asked.Asked.{Asked}
 use Rattle.share_modes.specs.declared.asked.Violates.{Violates}
 use Rattle.share_modes.specs.declared.asked.Violates.TheVariants.{Nothing, Refused, Breaks, OutOfMemory}

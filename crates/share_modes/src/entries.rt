@@ -7,7 +7,8 @@ ghost use Rattle.serial_table.specs.Change.{is_other_open};
 ghost use Rattle.record_codec.specs.Counts as counts;
 ghost use Rattle.record_codec.specs.ShareRec.{IsShareEntry, IsShareRec};
 ghost use Rattle.server_ids.specs.Sessions.{registered};
-ghost use Rattle.share_modes.specs.Entries.{known, open_row, with_entry, other_open, without_open};
+ghost use Rattle.record_rows.specs.Rows.{open_row};
+ghost use Rattle.share_modes.specs.Entries.{known, with_entry, other_open, without_open};
 
 use bitflags::Flags;
 use leases_db::Leases;

@@ -63,8 +63,9 @@ use Rattle.record_codec.proofs.LeaseExact.{lease_set}
 use Rattle.record_codec.proofs.RegisterExact.{register_set}
 use Rattle.record_codec.proofs.RangeExact.{range_set}
 use Rattle.record_codec.proofs.MailExact.{mail_set}
-use Rattle.stored_table.specs.Exact as exact
-use Rattle.stored_table.specs.Exact.{is_empty, unless_both_empty, entry_of, ref_of, item_of, hold_of, watch_of, share_of, exact_share, ranges_of, exact_ranges, exact_lock, lease_with, lease_record, opens_under, lease_of, exact_lease, register_record, exact_register, mail_of_session, mail_if_alive, exact_mail}
+use Rattle.record_rows.specs.Rows as rows
+use Rattle.record_rows.specs.Rows.{entry_of, ref_of, item_of, hold_of, watch_of}
+use Rattle.stored_table.specs.Exact.{is_empty, unless_both_empty, share_of, ranges_of, exact_lock, lease_with, lease_record, opens_under, lease_of, exact_lease, register_record, mail_of_session, mail_if_alive}
 use Rattle.stored_table.specs.Keys.{open_key}
 use Rattle.stored_table.specs.Move.{added_for, added_by_caller, id_by, added_by_call, added_by, added}
 use Rattle.stored_table.specs.Stands.{AddedHasSpelling, HasSpelling, HaveSpellings}
@@ -170,7 +171,7 @@ item_fits setup r h = record { id = id_fits setup r.id h.id; start = h.span.0; l
 hold_fits : (setup : Setup) (h : HoldRow) → sets.IsHoldRow setup h → IsHold (hold_of h)
 hold_fits setup h is = record { sid = sid_fits setup h.owner is.owner }
 
-token_fits : (setup : Setup) (w : WaiterRow) → sets.IsWaiterRow setup w → IsToken (exact.token_of (token_of w))
+token_fits : (setup : Setup) (w : WaiterRow) → sets.IsWaiterRow setup w → IsToken (rows.token_of (token_of w))
 token_fits setup w h = record { spot = spot_fits setup w.spot h.spot; call = h.call }
 
 -- ---- the records of a table
@@ -392,12 +393,12 @@ module _ (setup : Setup) (t : Table) (is : IsSetup setup) (sets_ : IsInSets setu
 
   -- ---- mailboxes
 
-  tokens : (sid : Sid) → IsListOf IsToken (map exact.token_of ((view t).tokens_of sid))
+  tokens : (sid : Sid) → IsListOf IsToken (map rows.token_of ((view t).tokens_of sid))
   tokens sid =
-      listed IsToken exact.token_of (map token_of (filter (waits_for sid) t.waiters))
+      listed IsToken rows.token_of (map token_of (filter (waits_for sid) t.waiters))
       (subst (λ n. n < 2 ^ 32) (sym (length-map (filter (waits_for sid) t.waiters) token_of)) (fewer (waits_for sid) t.waiters bounds.waiters))
       (λ x i. let m = in_map token_of (filter (waits_for sid) t.waiters) x i in
-      subst (λ y. IsToken (exact.token_of y)) m.2 (token_fits setup m.0 (waiter_in_sets m.0 (in_filter (waits_for sid) t.waiters m.0 m.1).0)))
+      subst (λ y. IsToken (rows.token_of y)) m.2 (token_fits setup m.0 (waiter_in_sets m.0 (in_filter (waits_for sid) t.waiters m.0 m.1).0)))
 
   letters : (sid : Sid) → IsListOf mail.IsLetter (map (λ post. post.letter) ((view t).letters_of sid))
   letters sid = kept mail.IsLetter (λ post. post.letter) (is_to sid) t.letters bounds.letters (λ post i _. letter_fits setup post.letter (all_of (sets.IsPost setup) t.letters sets_.letters post i).letter)
@@ -406,7 +407,7 @@ module _ (setup : Setup) (t : Table) (is : IsSetup setup) (sets_ : IsInSets setu
   mail_some w pid i same =
       let sid : Sid = record { pid = w.pid; session = w.session } in
       let h = worker_in_sets w i in
-      let ts = map exact.token_of ((view t).tokens_of sid) in
+      let ts = map rows.token_of ((view t).tokens_of sid) in
       let ls = map (λ post. post.letter) ((view t).letters_of sid) in
       unless_some (λ x. mail_rec.valid (1, x) × (pid < 2 ^ 32)) ts ls (record { session = w.session; tokens = ts; letters = ls })
       (λ _. ((mail_set (record { session = w.session; tokens = ts; letters = ls })).0 (record { session = h.session.1; tokens = tokens sid; letters = letters sid }), subst IsU32 same h.pid.number))

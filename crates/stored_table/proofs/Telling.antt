@@ -3,7 +3,7 @@ use Rattle.std.proofs.Common.{◌≡◌, ℕ, zero, suc, ◌≤◌, Bool, true, 
 use Rattle.std.specs.Prelude.{slice_get}
 use Rattle.std.specs.List.{list_any, IsDistinct}
 use Rattle.std.specs.Option.{option_map, option_map_or, option_and_then}
-use Rattle.std.proofs.lemmas.Bool.{eqb-true, and_parts, and_from, both_ways, or_left, or_right}
+use Rattle.std.proofs.lemmas.Bool.{eqb-true, and_parts, and_from, both_ways}
 use Rattle.std.proofs.Math.Bool.{and-false}
 use Rattle.sid_core.specs.declared.ids.Sid.{Sid}
 use Rattle.sid_core.specs.declared.ids.LeaseName.{LeaseName}
@@ -34,8 +34,9 @@ use Rattle.record_codec.specs.declared.register_rec.RegisterRec.{RegisterRec}
 use Rattle.record_codec.specs.declared.range_rec.RangeRec.{RangeRec}
 use Rattle.record_codec.specs.Counts.{Records, is_current, lives, entry_counts, pending_counts, range_counts, watch_counts, settled_lease}
 use Rattle.stored_table.specs.Decoded.{AllRecords, deciding}
-use Rattle.stored_table.specs.Exact.{is_empty, unless_both_empty, entry_of, ref_of, item_of, watch_of, share_of, ranges_of, lease_with, lease_record, opens_under, lease_of, register_record}
-use Rattle.stored_table.specs.Shown.{open_row, breaking_of, lease_row, range_row, watch_row, part_of, valid_entries, valid_ranges, open_watches, range_watches, pending_shown, is_named, if_of_file, lease_shown, shown}
+use Rattle.record_rows.specs.Rows.{entry_of, ref_of, item_of, watch_of, open_row, breaking_of, lease_row, range_row, watch_row}
+use Rattle.stored_table.specs.Exact.{is_empty, unless_both_empty, share_of, ranges_of, lease_with, lease_record, opens_under, lease_of, register_record}
+use Rattle.stored_table.specs.Shown.{part_of, valid_entries, valid_ranges, open_watches, range_watches, pending_shown, is_named, if_of_file, lease_shown, shown}
 use Rattle.stored_table.specs.Stands.{AgreeWith, clean_share, clean_ranges, clean_register}
 
 -- ---- lists in records

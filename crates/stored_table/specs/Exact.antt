@@ -11,9 +11,6 @@ use Rattle.sid_core.specs.declared.setup.Setup.{Setup}
 use Rattle.serial_table.specs.declared.rows.OpenRow.{OpenRow}
 use Rattle.serial_table.specs.declared.rows.LeaseRow.{LeaseRow}
 use Rattle.serial_table.specs.declared.rows.Breaking.{Breaking}
-use Rattle.serial_table.specs.declared.rows.RangeRow.{RangeRow}
-use Rattle.serial_table.specs.declared.rows.HoldRow.{HoldRow}
-use Rattle.serial_table.specs.declared.rows.Watch.{Watch}
 use Rattle.serial_table.specs.declared.rows.WorkerRow.{WorkerRow}
 use Rattle.serial_table.specs.ByNumber.{declared_at}
 use Rattle.serial_table.specs.View.{View, carries}
@@ -41,6 +38,7 @@ use Rattle.record_codec.specs.RangeRec.{range_rec}
 use Rattle.record_codec.specs.MailRec.{mail_rec}
 use Rattle.stored_table.specs.Keys.{is_key, lock_in, pid_in, name_in, file_in}
 use Rattle.stored_table.specs.Places.{Place}
+use Rattle.record_rows.specs.Rows.{entry_of, ref_of, item_of, hold_of, watch_of, token_of}
 
 -- ---- when there is no record
 
@@ -51,36 +49,6 @@ is_empty (x ∷ xs) = false
 -- none where both lists are empty
 abbrev pub unless_both_empty : {A B R : Type 0} → List A → List B → R → Option R
 unless_both_empty xs ys rec = if is_empty xs && is_empty ys then None else Some rec
-
--- ---- rows as parts of records
-
-abbrev pub entry_of : OpenRow → ShareEntry
-entry_of o = record {
-  id = o.id;
-  owner = o.owner;
-  handle = o.handle;
-  access = o.access;
-  share = o.share;
-  lease = o.lease;
-  durable = o.durable;
-  opened = o.opened.0;
-  marked = o.marked;
-}
-
-abbrev pub ref_of : OpenRow → LeaseRef
-ref_of o = record { id = o.id; owner = o.owner; durable = o.durable }
-
-abbrev pub item_of : RangeRow → RangeItem
-item_of r = record { id = r.id; start = r.span.start; length = r.span.length; mode = r.mode }
-
-abbrev pub hold_of : HoldRow → Hold
-hold_of h = record { sid = h.owner; mode = h.mode }
-
-abbrev pub watch_of : Watch → WatchRec
-watch_of w = record { sid = w.sid; call = w.call; upgrade = w.upgrade }
-
-abbrev pub token_of : table.Token → Token
-token_of t = record { spot = t.spot; call = t.call }
 
 -- ---- records of files
 

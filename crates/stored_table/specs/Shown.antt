@@ -1,14 +1,10 @@
 -- What the records show of a file: the parts that count, as a table has them.
-use Rattle.std.specs.Prelude.{ℕ, ◌==◌, ◌&&◌, Bool, false, if◌then◌else◌, List, [], ◌∷◌, Option, Some, None, map, filter}
+use Rattle.std.specs.Prelude.{ℕ, ◌==◌, ◌&&◌, Bool, false, if◌then◌else◌, List, [], ◌∷◌, Option, map, filter}
 use Rattle.std.specs.List.{list_any}
 use Rattle.std.specs.Option.{option_map_or, option_and_then}
 use Rattle.sid_core.specs.declared.ids.Spot.TheVariants.{OpenOf, RangesOf}
 use Rattle.sid_core.specs.declared.ids.LeaseName.{LeaseName}
-use Rattle.serial_table.specs.declared.rows.OpenRow.{OpenRow}
 use Rattle.serial_table.specs.declared.rows.LeaseRow.{LeaseRow}
-use Rattle.serial_table.specs.declared.rows.Breaking.{Breaking}
-use Rattle.serial_table.specs.declared.rows.RangeRow.{RangeRow}
-use Rattle.serial_table.specs.declared.rows.Watch.{Watch}
 use Rattle.serial_table.specs.View.{carries}
 use Rattle.serial_table.specs.File.{FileView, file_open}
 use Rattle.record_codec.specs.declared.watch.WatchRec.{WatchRec}
@@ -17,34 +13,7 @@ use Rattle.record_codec.specs.declared.lease_rec.LeaseRec.{LeaseRec}
 use Rattle.record_codec.specs.declared.range_rec.RangeItem.{RangeItem}
 use Rattle.record_codec.specs.Counts.{lives, entry_counts, pending_counts, watch_counts, range_counts, settled_lease}
 use Rattle.stored_table.specs.Decoded.{AllRecords, deciding}
-
--- ---- parts of records as rows
-
-abbrev pub open_row : ℕ → ShareEntry → OpenRow
-open_row file e = record {
-  id = e.id;
-  owner = e.owner;
-  handle = e.handle;
-  file = file;
-  access = e.access;
-  share = e.share;
-  lease = e.lease;
-  durable = e.durable;
-  opened = record { 0 = e.opened };
-  marked = e.marked;
-}
-
-abbrev pub breaking_of : LeaseRec → Option Breaking
-breaking_of r = if r.breaking then Some (record { asked = r.asked; needed = r.needed; until = record { 0 = r.until } }) else None
-
-abbrev pub lease_row : LeaseName → LeaseRec → LeaseRow
-lease_row name r = record { name = name; file = r.file; held = r.held; breaking = breaking_of r }
-
-abbrev pub range_row : ℕ → RangeItem → RangeRow
-range_row file r = record { id = r.id; file = file; span = record { start = r.start; length = r.length }; mode = r.mode }
-
-abbrev pub watch_row : WatchRec → Watch
-watch_row w = record { sid = w.sid; call = w.call; upgrade = w.upgrade }
+use Rattle.record_rows.specs.Rows.{open_row, lease_row, range_row, watch_row}
 
 -- ---- what counts of a file
 

@@ -57,7 +57,7 @@ use Rattle.record_codec.specs.ShareRec.{share_rec}
 use Rattle.stored_table.specs.Keys.{pid_key, name_key, file_key}
 use Rattle.stored_table.specs.Places.{Chains, Place, place, among, chain_of, chain_at, value_at}
 use Rattle.stored_table.specs.Decoded.{AllRecords, decoded, records_of}
-use Rattle.stored_table.specs.Exact.{entry_of}
+use Rattle.record_rows.specs.Rows.{entry_of}
 use Rattle.stored_table.specs.Met.{KeyList, count_from, chains_in, keys_at, all_keys, record_at, files_with, met_by_call, met_by_name, all_met, nothing_met}
 use Rattle.stored_table.specs.Met as stored
 use Rattle.stored_table.specs.Stands.{StandsFor}

@@ -22,7 +22,8 @@ use Rattle.record_codec.specs.declared.share_rec.ShareEntry.{ShareEntry}
 use Rattle.record_codec.specs.declared.lease_rec.LeaseRef.{LeaseRef}
 use Rattle.record_codec.specs.declared.lease_rec.LeaseRec.{LeaseRec}
 use Rattle.record_codec.specs.Counts.{Records, lives, is_connected, is_unanswered, settled_state, ref_counts, settled_lease, keeps, is_kept, entry_counts}
-use Rattle.stored_table.specs.Exact.{is_empty, entry_of, ref_of, lease_with, lease_record, opens_under, lease_of, exact_lease}
+use Rattle.record_rows.specs.Rows.{entry_of, ref_of}
+use Rattle.stored_table.specs.Exact.{is_empty, lease_with, lease_record, opens_under, lease_of, exact_lease}
 use Rattle.table_laws.proofs.Settling.{is_left, stays_settled}
 
 -- ---- parts of exact lease records

@@ -23,7 +23,8 @@ use Rattle.serial_table.proofs.Members.{IsIn, each, any_of, one_of, in_filter, p
 use Rattle.record_codec.specs.Counts.{Records, lives, settled_lease}
 use Rattle.stored_table.specs.Places.{Place, among}
 use Rattle.stored_table.specs.Decoded.{AllRecords}
-use Rattle.stored_table.specs.Exact.{ref_of, lease_record, opens_under, lease_of, exact_lease}
+use Rattle.record_rows.specs.Rows.{ref_of}
+use Rattle.stored_table.specs.Exact.{lease_record, opens_under, lease_of, exact_lease}
 use Rattle.table_laws.proofs.Lists.{filter_every}
 use Rattle.table_laws.proofs.Contained.{share_place, ranges_place, lock_place, lease_place, register_place, mail_place, SameFile, WaitsStep, IsMetName, Contained}
 use Rattle.table_laws.proofs.Exactly.{single, exact_settled, in_opens}

@@ -44,7 +44,8 @@ use Rattle.record_codec.specs.declared.mail_rec.MailRec.{MailRec}
 use Rattle.record_codec.specs.Counts.{Records, is_current, lives, hold_counts, has_token, has_token_at, watch_counts, register_watch_counts, ref_counts, settled_state, settled_lease, keeps, is_kept, entry_counts, pending_counts, entry_of_id_counts, id_counts, range_counts}
 use Rattle.stored_table.specs.Places.{Place, place, among}
 use Rattle.stored_table.specs.Decoded.{AllRecords, deciding}
-use Rattle.stored_table.specs.Exact.{is_empty, unless_both_empty, entry_of, ref_of, item_of, hold_of, watch_of, share_of, ranges_of, exact_share, exact_ranges, exact_lock, lease_with, opens_under, exact_lease, register_record, exact_register, token_of, mail_record, mail_of_session, mail_if_alive, exact_mail}
+use Rattle.record_rows.specs.Rows.{entry_of, ref_of, item_of, hold_of, watch_of, token_of}
+use Rattle.stored_table.specs.Exact.{is_empty, unless_both_empty, share_of, ranges_of, exact_share, exact_ranges, exact_lock, lease_with, opens_under, exact_lease, register_record, exact_register, mail_record, mail_of_session, mail_if_alive, exact_mail}
 use Rattle.stored_table.specs.Shown.{part_of, valid_entries}
 use Rattle.stored_table.specs.Move.{AddedOpen}
 use Rattle.stored_table.specs.Moved.{moved}

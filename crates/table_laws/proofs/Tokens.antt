@@ -19,7 +19,8 @@ use Rattle.serial_table.proofs.Members.{IsIn, each, any_none, found_in}
 use Rattle.record_codec.specs.declared.mail_rec.MailRec.{MailRec}
 use Rattle.record_codec.specs.declared.mail_rec.Token.{Token}
 use Rattle.record_codec.specs.Counts.{has_token, has_token_at}
-use Rattle.stored_table.specs.Exact.{is_empty, unless_both_empty, token_of, mail_record, mail_of_session, mail_if_alive, exact_mail}
+use Rattle.record_rows.specs.Rows.{token_of}
+use Rattle.stored_table.specs.Exact.{is_empty, unless_both_empty, mail_record, mail_of_session, mail_if_alive, exact_mail}
 use Rattle.table_laws.proofs.Lists.{any_mapped, any_in_filter}
 
 -- some token of the session's mailbox passes

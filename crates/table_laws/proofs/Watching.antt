@@ -24,7 +24,8 @@ use Rattle.record_codec.specs.declared.watch.WatchRec.{WatchRec}
 use Rattle.record_codec.specs.Counts.{has_token, has_token_at}
 use Rattle.stored_table.specs.Places.{Place, place, among}
 use Rattle.stored_table.specs.Decoded.{AllRecords}
-use Rattle.stored_table.specs.Exact.{watch_of, token_of, mail_record, mail_of_session, mail_if_alive, exact_mail}
+use Rattle.record_rows.specs.Rows.{watch_of, token_of}
+use Rattle.stored_table.specs.Exact.{mail_record, mail_of_session, mail_if_alive, exact_mail}
 use Rattle.table_laws.proofs.Lists.{filter_each, filter_every, filter_twice, filter_joined, filter_none, filter_mapped, any_in_filter, any_joined, any_alike, append_nothing}
 use Rattle.table_laws.proofs.Contained.{mail_place, register_place, spot_place, register_watchers, IsMetWaiter, WaitsStep}
 use Rattle.table_laws.proofs.Tokens.{counts_at, counts_anywhere}

@@ -2,7 +2,7 @@ use Rattle.std.proofs.Common.{refl, ap, subst, None, ◌∙◌}
 use Rattle.serial_table.specs.LeaseBreak.{break_by_owner}
 use Rattle.serial_table.specs.Ack.{acknowledged}
 use Rattle.server_ids.specs.Sessions.{registered}
-use Rattle.leases_db.specs.Rows.{lease_row, breaking_of}
+use Rattle.record_rows.specs.Rows.{lease_row, breaking_of}
 use Rattle.lease_breaks.specs.Breaks.{first_connected, with_state, settled, Does}
 use Rattle.lease_breaks.proofs.acks.accept.Goals as goal
 

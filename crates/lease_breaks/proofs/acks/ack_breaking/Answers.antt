@@ -4,7 +4,7 @@ use Rattle.sid_core.specs.declared.reply.Reply.TheVariants.{RequestNotAccepted}
 use Rattle.serial_table.specs.declared.rows.Breaking.{Breaking}
 use Rattle.serial_table.specs.Decision.{only_reply}
 use Rattle.server_ids.specs.Sessions.{registered}
-use Rattle.leases_db.specs.Rows.{lease_row}
+use Rattle.record_rows.specs.Rows.{lease_row}
 use Rattle.lease_breaks.specs.Breaks.{first_connected}
 use Rattle.lease_breaks.specs.Acks.{accept_by_owner, Answers}
 use Rattle.lease_breaks.specs.declared.acks.Acked.TheVariants.{NotAccepted}

@@ -1,7 +1,7 @@
 use Rattle.std.proofs.Common.{refl, ap, sym, subst, ◌∙◌}
 use Rattle.serial_table.specs.Ack.{ack_lease}
 use Rattle.server_ids.specs.Sessions.{registered}
-use Rattle.leases_db.specs.Rows.{lease_row, breaking_of}
+use Rattle.record_rows.specs.Rows.{lease_row, breaking_of}
 use Rattle.lease_breaks.specs.Breaks.{first_connected}
 use Rattle.lease_breaks.specs.Acks.{ack_by_owner, Answers}
 use Rattle.lease_breaks.specs.declared.acks.Acked.TheVariants.{Unsuccessful}

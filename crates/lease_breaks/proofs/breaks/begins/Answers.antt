@@ -3,7 +3,7 @@ use Rattle.serial_table.specs.Break.{no_break}
 use Rattle.std.specs.Prelude.{bit_and}
 use Rattle.serial_table.specs.LeaseBreak.{breaks_of_owner}
 use Rattle.server_ids.specs.Sessions.{registered}
-use Rattle.leases_db.specs.Rows.{lease_row}
+use Rattle.record_rows.specs.Rows.{lease_row}
 use Rattle.lease_breaks.specs.Breaks.{Does}
 use Rattle.lease_breaks.proofs.breaks.begins.Goals as goal
 

@@ -2,7 +2,7 @@ use Rattle.std.proofs.Common.{sym, subst, ◌∙◌}
 use Rattle.serial_table.specs.LeaseBreak.{break_by_owner}
 use Rattle.record_codec.specs.LeaseRec.{IsLeaseRec}
 use Rattle.server_ids.specs.Sessions.{registered}
-use Rattle.leases_db.specs.Rows.{lease_row, breaking_of}
+use Rattle.record_rows.specs.Rows.{lease_row, breaking_of}
 use Rattle.lease_breaks.specs.Breaks.{first_connected, all_changed, kept, Does}
 use Rattle.lease_breaks.proofs.ByOwner.{break_is}
 use Rattle.lease_breaks.proofs.Sets.{kept_is_state, break_keeps}

@@ -1,7 +1,7 @@
 use Rattle.std.proofs.Common.{sym, subst}
 use Rattle.serial_table.specs.LeaseBreak.{breaks_of_owner}
 use Rattle.server_ids.specs.Sessions.{registered}
-use Rattle.leases_db.specs.Rows.{lease_row}
+use Rattle.record_rows.specs.Rows.{lease_row}
 use Rattle.lease_breaks.specs.Breaks.{Does}
 use Rattle.lease_breaks.proofs.breaks.breaks_of_owner.Goals as goal
 

@@ -1,6 +1,6 @@
 use Rattle.std.proofs.Common.{cond, sym, subst, ◌∙◌}
 use Rattle.serial_table.specs.Break.{breaks_read, begins_to_break}
-use Rattle.leases_db.specs.Rows.{lease_row}
+use Rattle.record_rows.specs.Rows.{lease_row}
 use Rattle.lease_breaks.specs.Breaks.{Does}
 use Rattle.lease_breaks.proofs.breaks.breaks_to.Goals as goal
 

@@ -1,6 +1,6 @@
-use Rattle.std.proofs.Common.{◌≡◌, true, false, cond, refl, ap, sym, ◌∙◌}
+use Rattle.std.proofs.Common.{◌≡◌, true, false, cond, ap, sym, ◌∙◌}
 use Rattle.leases_db.specs.Breaks.{broken}
-use Rattle.leases_db.specs.Rows.{lease_row}
+use Rattle.record_rows.specs.Rows.{lease_row}
 use Rattle.leases_db.proofs.Due.{due_is, expires_as, breaks_where}
 use Rattle.leases_db.proofs.Sets.{broken_sets}
 use Rattle.leases_db.proofs.expiring.expire.Goals as goal

@@ -1,7 +1,7 @@
 use Rattle.std.proofs.Common.{◌≡◌, ◌∷◌, [], ap, sym, subst, ◌∙◌}
 use Rattle.record_codec.specs.declared.lease_rec.LeaseRec.{LeaseRec}
 use Rattle.record_codec.specs.LeaseRec.{IsLeaseRec}
-use Rattle.leases_db.specs.Rows.{lease_row}
+use Rattle.record_rows.specs.Rows.{lease_row}
 use Rattle.leases_db.specs.Granted.{asked_name}
 use Rattle.leases_db.specs.Granting.{may_hold, lease_by, stays_durable, with_ref}
 use Rattle.leases_db.proofs.Grants.{grants, refs_kept}

@@ -1,6 +1,6 @@
 use Rattle.std.proofs.Common.{sym}
 use Rattle.std.proofs.lemmas.Bool.{false_from_ne_true, eqb-true}
-use Rattle.record_watch.specs.Watches.{watch_row}
+use Rattle.record_rows.specs.Rows.{watch_row}
 use Rattle.record_watch.proofs.Boxes.{not_its_session}
 use Rattle.record_watch.proofs.wake.drop_wait.Goals as goal
 

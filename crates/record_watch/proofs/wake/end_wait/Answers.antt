@@ -1,5 +1,5 @@
 use Rattle.std.proofs.Common.{[], ◌∷◌, sym}
-use Rattle.record_watch.specs.Watches.{watch_row}
+use Rattle.record_rows.specs.Rows.{watch_row}
 use Rattle.record_watch.specs.Mails.{without_waits}
 use Rattle.record_watch.proofs.Boxes.{on_some_at, changed_at, changed_nowhere, not_its_pid}
 use Rattle.record_watch.proofs.wake.end_wait.Goals as goal

@@ -1,5 +1,5 @@
 use Rattle.std.proofs.Common.{map, take}
-use Rattle.record_watch.specs.Watches.{watch_row}
+use Rattle.record_rows.specs.Rows.{watch_row}
 use Rattle.record_watch.specs.Mails.{without_waits, ChangesEach}
 use Rattle.record_watch.proofs.wake.end_waits.Given as goal
 

@@ -1,6 +1,6 @@
 use Rattle.std.proofs.Common.{◌≡◌, ◌++◌, map, take}
 use Rattle.serial_table.specs.Wake.{wake}
-use Rattle.record_watch.specs.Watches.{watch_row}
+use Rattle.record_rows.specs.Rows.{watch_row}
 use Rattle.record_watch.proofs.wake.push_wakes.Given as goal
 
 abbrev pub invariant-loop-watch : goal.invariant-loop-watch

@@ -1,6 +1,7 @@
 use Rattle.std.proofs.Common.{◌≡◌, filter, map, OnOk, ap, subst, ◌∙◌}
 use Rattle.record_codec.specs.Counts.{register_watch_counts}
-use Rattle.record_watch.specs.Watches.{watch_row, mailed}
+use Rattle.record_rows.specs.Rows.{watch_row}
+use Rattle.record_watch.specs.Watches.{mailed}
 use Rattle.record_watch.specs.Mails.{without_waits, ChangesEach}
 use Rattle.record_watch.proofs.wake.wake_for_death.Goals as goal
 

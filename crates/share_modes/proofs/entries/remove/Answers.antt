@@ -1,6 +1,7 @@
 use Rattle.std.proofs.Common.{◌≡◌, filter, map, sym, ap, subst, ◌∙◌}
 use Rattle.record_codec.specs.ShareRec.{IsShareRec}
-use Rattle.share_modes.specs.Entries.{open_row, other_open}
+use Rattle.record_rows.specs.Rows.{open_row}
+use Rattle.share_modes.specs.Entries.{other_open}
 use Rattle.share_modes.proofs.Kept.{without_open_keeps, rows_without}
 use Rattle.share_modes.proofs.entries.remove.Goals as goal
 

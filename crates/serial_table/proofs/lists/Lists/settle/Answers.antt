@@ -11,6 +11,6 @@ returns-clause-table c =
     })
     ∙ ap (without_empty (in_scope c.args.scope)) c.drop_what_goes.ensures.table
     ∙ (λ i. without_empty (in_scope c.args.scope) (without_what_goes (in_scope c.args.scope) (record (table_of c.args.self.now) {
-      leases = (c.settle_leases.ensures.items ∙ (λ i. map (lease_ends_break (in_scope c.args.scope) (c.as_slice.ensures.value i) (lives_by (c.as_slice-2.ensures.value i))) c.args.self.now.leases.items)) i;
+      leases = (c.settle_breaking.ensures.items ∙ (λ i. map (lease_ends_break (in_scope c.args.scope) (c.as_slice.ensures.value i) (lives_by (c.as_slice-2.ensures.value i))) c.args.self.now.leases.items)) i;
     })))
     ∙ settles_in_place (in_scope c.args.scope) (table_of c.args.self.now)
