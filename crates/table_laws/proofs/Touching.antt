@@ -320,7 +320,7 @@ module _ (setup : Setup) (ps : List Place) (s : AllRecords) where
       by None e = tt
       by (Some b) e = e
 
-  same_waits : (t u x : Table) → x.waiters ≡ u.waiters → WaitsStep setup ps s t u → WaitsStep setup ps s t x
+  pub same_waits : (t u x : Table) → x.waiters ≡ u.waiters → WaitsStep setup ps s t u → WaitsStep setup ps s t x
   same_waits t u x e w = record { stays = w.stays; new = w.new; rows = e ∙ w.rows; dropped = w.dropped; added = w.added }
 
   waiter_comes : (t u : Table) (x : WaiterRow) → IsMetWaiter setup ps s x → WaitsStep setup ps s t u → WaitsStep setup ps s t (perform (c.AddWaiter x) u)
@@ -383,7 +383,7 @@ module _ (setup : Setup) (ps : List Place) (s : AllRecords) where
 
   -- ---- all of it, change by change
 
-  abbrev Named : (ℕ → Bool) → Table → Type 0
+  abbrev pub Named : (ℕ → Bool) → Table → Type 0
   Named here t = (o : OpenRow) → IsIn o t.opens → here o.file ≡ true → IsMetName ps o.lease
 
   named_step : (here : ℕ → Bool) (change : Change) (t : Table) → touches here change ≡ true → reaches setup ps change ≡ true → Named here t → Named here (perform change t)
@@ -417,15 +417,15 @@ module _ (setup : Setup) (ps : List Place) (s : AllRecords) where
       by c.Settle h r (inr k) = absurd k
 
   -- what is kept along the changes: all but which files are written
-  record Along (here : ℕ → Bool) (t u : Table) : Type 0 where
-    others : (file : ℕ) → here file ≡ false → SameFile file (view t) (view u)
-    settled : (file : ℕ) → here file ≡ false → IsSettled u file
-    names : Named here u
-    workers : u.workers ≡ t.workers
-    ended : u.ended ≡ t.ended
-    holds : (key : ℕ) → among (lock_place key) ps ≡ false → (view u).holds_of key ≡ (view t).holds_of key
-    letters : (sid : Sid) → among (mail_place sid.pid) ps ≡ false → (view u).letters_of sid ≡ (view t).letters_of sid
-    waits : WaitsStep setup ps s t u
+  pub record Along (here : ℕ → Bool) (t u : Table) : Type 0 where
+    pub others : (file : ℕ) → here file ≡ false → SameFile file (view t) (view u)
+    pub settled : (file : ℕ) → here file ≡ false → IsSettled u file
+    pub names : Named here u
+    pub workers : u.workers ≡ t.workers
+    pub ended : u.ended ≡ t.ended
+    pub holds : (key : ℕ) → among (lock_place key) ps ≡ false → (view u).holds_of key ≡ (view t).holds_of key
+    pub letters : (sid : Sid) → among (mail_place sid.pid) ps ≡ false → (view u).letters_of sid ≡ (view t).letters_of sid
+    pub waits : WaitsStep setup ps s t u
 
   step : (here : ℕ → Bool) (t u : Table) (change : Change) → touches here change ≡ true → reaches setup ps change ≡ true → IsNewIn s change → Along here t u → Along here t (perform change u)
   step here t u change h r new a =
@@ -441,7 +441,7 @@ module _ (setup : Setup) (ps : List Place) (s : AllRecords) where
         waits = waits_step change t u here h r new a.waits;
       }
 
-  along : (here : ℕ → Bool) (t u : Table) (cs : List Change) → list_all (touches here) cs ≡ true → list_all (reaches setup ps) cs ≡ true → AllByRecursion (IsNewIn s) cs → Along here t u → Along here t (perform_all cs u)
+  pub along : (here : ℕ → Bool) (t u : Table) (cs : List Change) → list_all (touches here) cs ≡ true → list_all (reaches setup ps) cs ≡ true → AllByRecursion (IsNewIn s) cs → Along here t u → Along here t (perform_all cs u)
   along here t u [] h r new a = a
   along here t u (change ∷ cs) h r new a =
       let p = and_parts (touches here change) (list_all (touches here) cs) h in
