@@ -14,6 +14,7 @@ pub mod LessEvents
 pub mod DeathEvents
 pub mod SessionEvents
 pub mod ScavengeEvents
+pub mod ReconnectEvents
 pub mod Stepping
 pub mod Touching
 pub mod Meets

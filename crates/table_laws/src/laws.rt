@@ -90,3 +90,9 @@ pub fn scavenges_keep_standing()
     ensures { (setup : Setup) (n : ℕ) (before : List Entry) (by seq number : ℕ) (moment : Moment) (reply : Reply)
         → LegalKeepsStanding setup n before (call_entry by seq number moment call.Scavenge reply) }
 {}
+
+/// What is written stands for the table afterwards: `reconnect`.
+pub fn reconnects_keep_standing()
+    ensures { (setup : Setup) (n : ℕ) (before : List Entry) (by seq number : ℕ) (moment : Moment) (worker made key : ℕ) (reply : Reply)
+        → LegalKeepsStanding setup n before (call_entry by seq number moment (call.Reconnect worker made key) reply) }
+{}
