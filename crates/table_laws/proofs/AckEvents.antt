@@ -1,5 +1,5 @@
 -- `ack` keeps what the databases stand for.
-use Rattle.std.proofs.Common.{◌≡◌, ℕ, Bool, true, false, cond, not, ◌==◌, ◌&&◌, ◌||◌, List, [], ◌∷◌, ◌++◌, map, filter, Option, Some, None, refl, sym, ap, ◌∙◌, subst, inl, inr}
+use Rattle.std.proofs.Common.{◌≡◌, ℕ, Bool, true, ◌==◌, List, [], ◌∷◌, ◌++◌, map, Option, Some, None, refl, sym, ap, ◌∙◌, subst, inl, inr}
 use Rattle.std.specs.List.{list_any, list_all, flat_map}
 use Rattle.std.specs.Option.{option_map_or}
 use Rattle.std.proofs.lemmas.Bool.{and_parts, and_from, cond_both, eqb-true, eq-eqb}
@@ -11,7 +11,6 @@ use Rattle.sid_core.specs.declared.ids.LeaseName.{LeaseName}
 use Rattle.sid_core.specs.declared.ids.Moment.{Moment}
 use Rattle.sid_core.specs.declared.ids.Sid.{Sid}
 use Rattle.sid_core.specs.declared.ids.Spot.{Spot}
-use Rattle.sid_core.specs.declared.ids.Spot.TheVariants.{OpenOf, RangesOf}
 use Rattle.sid_core.specs.declared.reply.Reply.{Reply}
 use Rattle.sid_core.specs.declared.reply.Reply.TheVariants.{Unsuccessful, RequestNotAccepted, ObjectNameNotFound}
 use Rattle.sid_core.specs.declared.setup.Setup.{Setup}
@@ -23,30 +22,26 @@ use Rattle.serial_table.specs.declared.rows.LeaseRow.{LeaseRow}
 use Rattle.serial_table.specs.declared.rows.Breaking.{Breaking}
 use Rattle.serial_table.specs.declared.rows.Watch.{Watch}
 use Rattle.serial_table.specs.declared.table.Table.{Table}
-use Rattle.serial_table.specs.declared.change.Change.{Change}
 use Rattle.serial_table.specs.declared.decision.Caller.{Caller}
 use Rattle.serial_table.specs.declared.decision.Decision.{Decision}
 use Rattle.serial_table.specs.Ack.{acknowledged, accept, ack_lease, ack_first, ack}
 use Rattle.serial_table.specs.Asked.{own_lease}
 use Rattle.serial_table.specs.Break.{Breaks, break_lease}
-use Rattle.serial_table.specs.View.{View, view, lives, carries, has_name, is_of_file}
-use Rattle.serial_table.specs.File.{FileView, FileOpen, file_view, file_open}
+use Rattle.serial_table.specs.View.{view, lives, carries, has_name, is_of_file}
+use Rattle.serial_table.specs.File.{FileOpen, file_view, file_open}
 use Rattle.serial_table.specs.Settle.{settle}
 use Rattle.serial_table.specs.Change.{perform_all}
-use Rattle.serial_table.specs.Decide.{decide}
 use Rattle.serial_table.specs.Decision.{only_reply, spots_of}
 use Rattle.serial_table.specs.Expire.{look, due, is_due, expires, expired_by}
 use Rattle.serial_table.specs.History.{after, IsLegal}
 use Rattle.serial_table.specs.Sound.{has_open, is_open_under}
-use Rattle.serial_table.specs.Step.{declared_at}
 use Rattle.serial_table.proofs.SameIds.{same_name-eq}
-use Rattle.serial_table.proofs.BreaksLeave.{ComesFrom, from_breaks}
+use Rattle.serial_table.proofs.BreaksLeave.{from_breaks}
 use Rattle.serial_table.proofs.Expiring.{settles_all}
 use Rattle.serial_table.proofs.Members.{IsIn, each, all_each, any_of, one_of, in_filter, in_flat_map, in_map, passes_in}
 use Rattle.serial_table.proofs.Shown.{is_of_break}
 use Rattle.chain_map.specs.declared.db.Db.TheVariants as db
 use Rattle.record_codec.specs.declared.share_rec.ShareEntry.{ShareEntry}
-use Rattle.record_codec.specs.declared.share_rec.ShareRec.{ShareRec}
 use Rattle.record_codec.specs.ShareRec.{share_rec}
 use Rattle.stored_table.specs.Keys.{pid_key, name_key, file_key}
 use Rattle.stored_table.specs.Places.{Chains, Place, among}
@@ -58,7 +53,7 @@ use Rattle.stored_table.specs.Stands.{StandsFor}
 use Rattle.table_laws.specs.Standing.{KeepsStanding}
 use Rattle.table_laws.proofs.Contained.{share_place, ranges_place, mail_place, IsMetName}
 use Rattle.table_laws.proofs.Exactly.{in_opens, single}
-use Rattle.table_laws.proofs.Meets.{flat_mapped_in, entry_recorded, files_written, leases_met, owner_mail, open_watcher_met, range_watcher_met}
+use Rattle.table_laws.proofs.Meets.{entry_recorded, files_written, leases_met, owner_mail, open_watcher_met, range_watcher_met}
 use Rattle.table_laws.proofs.KeysThere.{recorded_key}
 use Rattle.table_laws.proofs.Deciding.{IsContained, reply_contained}
 use Rattle.table_laws.proofs.Chains.{IsFine, adds_no_open}

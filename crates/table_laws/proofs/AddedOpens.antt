@@ -1,15 +1,14 @@
 -- Open records where an entry adds one under a pid and a number that no open has yet.
-use Rattle.std.proofs.Common.{◌≡◌, ℕ, ◌<◌, ◌^◌, Bool, true, false, cond, ◌==◌, ◌&&◌, List, [], ◌∷◌, ◌++◌, drop, filter, Option, Some, None, refl, sym, ap, ◌∙◌, subst, inl, inr, ◌⊎◌, arith}
+use Rattle.std.proofs.Common.{◌≡◌, ℕ, ◌<◌, ◌^◌, true, false, cond, List, [], ◌∷◌, ◌++◌, drop, Some, None, refl, sym, ap, ◌∙◌, inl, inr, ◌⊎◌, arith}
 use Rattle.std.specs.List.{AllByRecursion}
 use Rattle.std.specs.Option.{option_and_then}
-use Rattle.std.proofs.lemmas.Bool.{and_from, and_right, eqb-true, false_from_ne_true, lt-ltb}
+use Rattle.std.proofs.lemmas.Bool.{and_from, and_right, false_from_ne_true, lt-ltb}
 use Rattle.byteorder.specs.Endian.{big_bytes, big_number}
 use Rattle.byteorder.specs.Numbers.{big_number-reads_back}
-use Rattle.sid_core.specs.declared.ids.OpenId.{OpenId}
 use Rattle.sid_core.specs.declared.setup.Setup.{Setup}
 use Rattle.serial_table.specs.declared.rows.OpenRow.{OpenRow}
 use Rattle.serial_table.specs.declared.table.Table.{Table}
-use Rattle.serial_table.specs.View.{View, view, is_of_file, has_id}
+use Rattle.serial_table.specs.View.{view, is_of_file, has_id}
 use Rattle.serial_table.specs.InSets.{IsInSets, IsOpenRow}
 use Rattle.serial_table.specs.Sound.{IsSound, AreBelow}
 use Rattle.serial_table.proofs.SameIds.{same_id-refl}
@@ -20,7 +19,6 @@ use Rattle.stored_table.specs.Keys.{fitting, open_key, is_key}
 use Rattle.stored_table.specs.Places.{Place, place, same_place, among}
 use Rattle.stored_table.specs.Decoded.{AllRecords}
 use Rattle.stored_table.specs.Exact.{is_empty}
-use Rattle.stored_table.specs.Move.{AddedOpen}
 use Rattle.stored_table.specs.Moved.{if_still_open, moved_open, moved}
 use Rattle.stored_table.specs.Stands.{AgreeWith, HasOpenRecords}
 use Rattle.stored_table.proofs.Bridging.{are_bytes, bytes_append}

@@ -3,10 +3,10 @@
 -- The register record of the worker is written, and the mailboxes of the worker and of all who wait behind its session. Of the other records
 -- some parts count no longer: entries, references and ranges of opens that went, holds of the session, and watches of waiters that went. What
 -- settling leaves of a lease elsewhere is what is left of its record.
-use Rattle.std.proofs.Common.{◌≡◌, ℕ, Bool, true, false, cond, not, ◌==◌, ◌&&◌, List, [], ◌∷◌, ◌++◌, map, filter, find, Option, Some, None, refl, sym, ap, ◌∙◌, subst, inl, inr, ◌⊎◌}
+use Rattle.std.proofs.Common.{◌≡◌, ℕ, Bool, false, not, List, [], ◌∷◌, ◌++◌, map, Option, Some, None, refl, sym, ap, ◌∙◌, subst, inl}
 use Rattle.std.specs.List.{list_any, AllByRecursion}
 use Rattle.std.specs.Option.{option_map, option_map_or}
-use Rattle.std.proofs.lemmas.Bool.{and_parts, cond-false, eqb-true, false_from_ne_true}
+use Rattle.std.proofs.lemmas.Bool.{and_parts}
 use Rattle.sid_core.specs.declared.entry.Entry.{Entry}
 use Rattle.sid_core.specs.declared.entry.Event.TheVariants.{Died}
 use Rattle.sid_core.specs.declared.entry.Post.{Post}
@@ -15,9 +15,6 @@ use Rattle.sid_core.specs.declared.ids.Sid.{Sid}
 use Rattle.sid_core.specs.declared.setup.Setup.{Setup}
 use Rattle.sid_core.specs.Setup.{IsSetup}
 use Rattle.sid_core.specs.Ids.{same_sid}
-use Rattle.serial_table.specs.declared.rows.OpenRow.{OpenRow}
-use Rattle.serial_table.specs.declared.rows.Watch.{Watch}
-use Rattle.serial_table.specs.declared.rows.WorkerRow.{WorkerRow}
 use Rattle.serial_table.specs.declared.table.Table.{Table}
 use Rattle.serial_table.specs.declared.change.Change.{Change}
 use Rattle.serial_table.specs.declared.change.Change.TheVariants as c
@@ -27,27 +24,21 @@ use Rattle.serial_table.specs.Settle.{settle_where}
 use Rattle.serial_table.specs.Change.{perform, perform_all, end_session}
 use Rattle.serial_table.specs.Decision.{Outcome, waits_no_more, conclude}
 use Rattle.serial_table.specs.Session.{end_of_session, wakes_behind}
-use Rattle.serial_table.specs.Step.{caller_of, changes_of, death_of, declared_at}
-use Rattle.serial_table.specs.History.{start, after, after_event, IsLegal, IsLegalDeath}
+use Rattle.serial_table.specs.Step.{caller_of, changes_of}
+use Rattle.serial_table.specs.History.{start, after, IsLegal, IsLegalDeath}
 use Rattle.serial_table.specs.Sound.{AllFit}
 use Rattle.serial_table.proofs.Alike.{after_all-append}
 use Rattle.serial_table.proofs.Along.{legal_before}
 use Rattle.serial_table.proofs.Callers.{is_caller_of}
 use Rattle.serial_table.proofs.Concluding.{perform_all-append}
 use Rattle.serial_table.proofs.Entries.{entry_fits}
-use Rattle.serial_table.proofs.Filters.{find-map}
 use Rattle.serial_table.proofs.Living.{lives_among}
-use Rattle.serial_table.proofs.Members.{IsIn, found_in}
-use Rattle.serial_table.proofs.Views.{pid-end_session}
-use Rattle.stored_table.specs.Places.{Chains, Place}
-use Rattle.stored_table.specs.Decoded.{AllRecords, records_of}
-use Rattle.stored_table.specs.Met.{Met, met_by_worker, all_met, nothing_met}
-use Rattle.stored_table.specs.Stands.{StandsFor}
+use Rattle.stored_table.specs.Decoded.{records_of}
+use Rattle.stored_table.specs.Met.{met_by_worker, all_met, nothing_met}
 use Rattle.table_laws.specs.Standing.{KeepsStanding}
 use Rattle.table_laws.proofs.Lists.{all_joined}
-use Rattle.table_laws.proofs.Lessened.{Lessened}
 use Rattle.table_laws.proofs.Thinning.{Thins, IsThinned, thinned}
-use Rattle.table_laws.proofs.Ending.{own_register, own_mail, behind_met, wakes_met, drops_leave, sends_add, lives_ended, ended, settled_with, AreWorkers, others_ended, dead, dead_before, ending}
+use Rattle.table_laws.proofs.Ending.{own_register, own_mail, behind_met, wakes_met, drops_leave, sends_add, lives_ended, settled_with, AreWorkers, others_ended, dead, dead_before, ending}
 use Rattle.table_laws.proofs.LessEvents.{fine_before, fine_after, less_stands, drops_thin, sends_thin}
 
 module _ (setup : Setup) (n : ℕ) (is : IsSetup setup) (before : List Entry) (by seq worker : ℕ) (moment : Moment) where

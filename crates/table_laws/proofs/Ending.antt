@@ -1,24 +1,21 @@
 -- What the end of a session does beside the places of its worker and of those who wait behind it.
-use Rattle.std.proofs.Common.{◌≡◌, ℕ, ◌+◌, ◌≤◌, Bool, true, false, cond, not, ◌==◌, ◌&&◌, ◌||◌, List, [], ◌∷◌, ◌++◌, map, filter, find, Option, Some, None, refl, sym, ap, ◌∙◌, subst, inl, inr, ◌⊎◌, arith}
-use Rattle.std.specs.List.{list_any, list_all, AllByRecursion}
-use Rattle.std.specs.Option.{option_map, option_map_or, option_and_then}
-use Rattle.std.proofs.lemmas.Bool.{and_parts, and_from, and_cases, and_left, and_right, or_from, or_left, or_right, both_ways, cond_both, cond-true, cond-false, eqb-true, eq-eqb, leb-true, not-true, not-false, not_from_true, not_from_false, false_from_ne_true, true_from_ne_false}
+use Rattle.std.proofs.Common.{◌≡◌, ℕ, Bool, true, false, cond, not, ◌==◌, ◌&&◌, ◌||◌, List, [], ◌∷◌, ◌++◌, map, filter, find, Option, Some, None, refl, sym, ap, ◌∙◌, subst, inl, inr, ◌⊎◌}
+use Rattle.std.specs.List.{list_all}
+use Rattle.std.specs.Option.{option_map, option_map_or}
+use Rattle.std.proofs.lemmas.Bool.{and_parts, and_cases, and_left, and_right, both_ways, cond-false, eqb-true, not-false, not_from_true, not_from_false, false_from_ne_true}
 use Rattle.std.proofs.Math.Bool.{and-false, and-true}
 use Rattle.sid_core.specs.declared.ids.Sid.{Sid}
-use Rattle.sid_core.specs.declared.ids.LeaseName.{LeaseName}
 use Rattle.sid_core.specs.declared.ids.Moment.{Moment}
 use Rattle.sid_core.specs.declared.entry.Post.{Post}
 use Rattle.sid_core.specs.declared.setup.Setup.{Setup}
 use Rattle.sid_core.specs.declared.setup.WorkerInfo.{WorkerInfo}
 use Rattle.sid_core.specs.Ids.{same_sid}
 use Rattle.serial_table.specs.declared.rows.OpenRow.{OpenRow}
-use Rattle.serial_table.specs.declared.rows.LeaseRow.{LeaseRow}
 use Rattle.serial_table.specs.declared.rows.HoldRow.{HoldRow}
 use Rattle.serial_table.specs.declared.rows.WaiterRow.{WaiterRow}
 use Rattle.serial_table.specs.declared.rows.WorkerRow.{WorkerRow}
 use Rattle.serial_table.specs.declared.rows.Watch.{Watch}
 use Rattle.serial_table.specs.declared.table.Table.{Table}
-use Rattle.serial_table.specs.declared.change.Change.{Change}
 use Rattle.serial_table.specs.declared.change.Change.TheVariants as c
 use Rattle.serial_table.specs.View as table
 use Rattle.serial_table.specs.View.{View, view, has_pid, is_to, is_hold_of, is_end_of, is_of_file, waits_behind, watch_behind}
@@ -28,7 +25,7 @@ use Rattle.serial_table.specs.Change.{perform, perform_all, is_other_wait, outli
 use Rattle.serial_table.specs.Decision.{waits_no_more}
 use Rattle.serial_table.specs.Session.{wakes_behind}
 use Rattle.serial_table.specs.Wake.{wake}
-use Rattle.serial_table.specs.Sound.{IsSound, IsConsistent, is_durable, lasts, has_had}
+use Rattle.serial_table.specs.Sound.{IsSound, is_durable, lasts, has_had}
 use Rattle.serial_table.proofs.Names.{same_sid-eq}
 use Rattle.serial_table.proofs.SameIds.{same_sid-refl}
 use Rattle.serial_table.proofs.Views.{pid-end_session, view-perform}
@@ -39,21 +36,21 @@ use Rattle.chain_map.specs.declared.db.Db.TheVariants as db
 use Rattle.record_codec.specs.declared.watch.WatchRec.{WatchRec}
 use Rattle.record_codec.specs.declared.register_rec.RegisterRec.{RegisterRec}
 use Rattle.record_codec.specs.RegisterRec.{register_rec}
-use Rattle.record_codec.specs.Counts.{Records, lives, register_watch_counts, settled_lease}
+use Rattle.record_codec.specs.Counts.{register_watch_counts}
 use Rattle.stored_table.specs.Keys.{pid_key}
-use Rattle.stored_table.specs.Places.{Chains, Place, place, among}
+use Rattle.stored_table.specs.Places.{Chains, Place, among}
 use Rattle.stored_table.specs.Decoded.{AllRecords, deciding, records_of}
-use Rattle.stored_table.specs.Exact.{watch_of, register_record, exact_register, exact_lease}
-use Rattle.stored_table.specs.Met.{KeyList, Met, met_by_worker, met_watchers, named_at, record_at, watchers, all_met}
+use Rattle.stored_table.specs.Exact.{watch_of, register_record}
+use Rattle.stored_table.specs.Met.{Met, met_by_worker, named_at, record_at, watchers, all_met}
 use Rattle.stored_table.specs.Shown.{part_of}
 use Rattle.stored_table.specs.Stands.{AgreeWith, clean_register}
 use Rattle.table_laws.specs.Standing.{IsUnnamed}
-use Rattle.table_laws.proofs.Lists.{all_joined, filter_each, filter_every, filter_none, filter_twice, filter_joined, append_nothing}
-use Rattle.table_laws.proofs.Contained.{mail_place, register_place, lock_place, lease_place, WaitsStep}
+use Rattle.table_laws.proofs.Lists.{filter_each, filter_every, filter_none, filter_twice, filter_joined, append_nothing}
+use Rattle.table_laws.proofs.Contained.{mail_place, register_place, WaitsStep}
 use Rattle.table_laws.proofs.Lessened.{Lessened}
 use Rattle.table_laws.proofs.Meets.{later_in, flat_mapped_in, mail_met, register_met}
 use Rattle.table_laws.proofs.SettledLeases.{settled_exact}
-use Rattle.table_laws.proofs.Thinning.{Thins, IsThinned, less_file, less_handles}
+use Rattle.table_laws.proofs.Thinning.{IsThinned, less_file, less_handles}
 
 -- ---- who waits behind a session is met with its worker
 

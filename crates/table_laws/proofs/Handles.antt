@@ -1,5 +1,5 @@
 -- What is needed of a lease record in well-formed chains has HANDLE only where what is held has it.
-use Rattle.std.proofs.Common.{◌≡◌, ℕ, ◌≤◌, Bool, true, false, not, ◌==◌, ◌&&◌, ◌||◌, List, [], ◌∷◌, Option, Some, None, refl, sym, ap, ◌∙◌, subst, arith}
+use Rattle.std.proofs.Common.{◌≡◌, ℕ, ◌≤◌, Bool, true, false, not, ◌==◌, ◌&&◌, ◌||◌, List, [], ◌∷◌, Option, Some, None, refl, sym, ap, subst, arith}
 use Rattle.std.specs.Prelude.{IfSome, nat_le}
 use Rattle.std.specs.List.{list_all}
 use Rattle.std.proofs.lemmas.Bool.{and_parts, and_from, eqb-true, leb-true}
@@ -16,7 +16,7 @@ use Rattle.record_codec.proofs.Whole.{all_again}
 use Rattle.stored_table.specs.Keys.{name_key}
 use Rattle.stored_table.specs.Places.{Chains, place, value_at}
 use Rattle.stored_table.specs.Decoded.{value_of, decoded, records_of}
-use Rattle.stored_table.specs.Stands.{HasValue, IsWellFormed}
+use Rattle.stored_table.specs.Stands.{IsWellFormed}
 use Rattle.stored_table.proofs.Forming.{IsValue}
 use Rattle.stored_table.proofs.Keeping.{old_value}
 use Rattle.table_laws.proofs.Settling.{KeepsHandle}

@@ -1,5 +1,5 @@
 -- An entry after which fewer may live, and that adds no open.
-use Rattle.std.proofs.Common.{◌≡◌, ℕ, Bool, List, [], ◌∷◌, ◌++◌, map, Option, Some, None, refl, sym, ap, ◌∙◌, subst}
+use Rattle.std.proofs.Common.{◌≡◌, ℕ, Bool, List, [], ◌∷◌, ◌++◌, map, None, sym, subst}
 use Rattle.std.specs.List.{AllByRecursion}
 use Rattle.sid_core.specs.declared.entry.Entry.{Entry}
 use Rattle.sid_core.specs.declared.entry.Post.{Post}
@@ -16,7 +16,7 @@ use Rattle.serial_table.specs.History.{after, IsLegal}
 use Rattle.serial_table.proofs.Members.{IsIn}
 use Rattle.stored_table.specs.Places.{Chains, Place}
 use Rattle.stored_table.specs.Decoded.{records_of}
-use Rattle.stored_table.specs.Move.{AddedOpen, added, move, places_written}
+use Rattle.stored_table.specs.Move.{added, move, places_written}
 use Rattle.stored_table.specs.Moved.{moved}
 use Rattle.stored_table.specs.Stands.{HasOpenRecords, StandsFor}
 use Rattle.table_laws.proofs.Lessened.{Lessened}

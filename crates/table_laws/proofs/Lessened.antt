@@ -1,9 +1,9 @@
 -- What an entry does beside the places that it writes, where fewer may live afterwards: opens and holds of those who live no longer go,
 -- with what depends on them, and nothing else that a record elsewhere tells.
-use Rattle.std.proofs.Common.{◌≡◌, ℕ, Bool, true, false, cond, ◌==◌, ◌&&◌, List, [], ◌∷◌, map, filter, find, Option, Some, None, refl, sym, ap, ◌∙◌, subst, inl, inr, ◌⊎◌}
+use Rattle.std.proofs.Common.{◌≡◌, ℕ, Bool, true, false, ◌==◌, ◌&&◌, List, [], ◌∷◌, map, filter, find, Option, Some, None, refl, sym, ap, ◌∙◌, subst, inl, ◌⊎◌}
 use Rattle.std.specs.List.{list_any}
 use Rattle.std.specs.Option.{option_map_or, option_and_then}
-use Rattle.std.proofs.lemmas.Bool.{and_parts, and_from, both_ways, eqb-true, eq-eqb, false_from_ne_true}
+use Rattle.std.proofs.lemmas.Bool.{and_parts, both_ways, eqb-true, eq-eqb, false_from_ne_true}
 use Rattle.sid_core.specs.declared.ids.Sid.{Sid}
 use Rattle.sid_core.specs.declared.ids.LeaseName.{LeaseName}
 use Rattle.sid_core.specs.declared.setup.Setup.{Setup}
@@ -12,7 +12,6 @@ use Rattle.sid_core.specs.Values.{has}
 use Rattle.serial_table.specs.declared.rows.OpenRow.{OpenRow}
 use Rattle.serial_table.specs.declared.rows.LeaseRow.{LeaseRow}
 use Rattle.serial_table.specs.declared.rows.HoldRow.{HoldRow}
-use Rattle.serial_table.specs.declared.rows.RangeRow.{RangeRow}
 use Rattle.serial_table.specs.declared.rows.WorkerRow.{WorkerRow}
 use Rattle.serial_table.specs.declared.table.Table.{Table}
 use Rattle.serial_table.specs.View as table
@@ -23,7 +22,7 @@ use Rattle.serial_table.proofs.Members.{IsIn, each, any_of, one_of, in_filter, p
 use Rattle.record_codec.specs.Counts.{Records, lives, settled_lease}
 use Rattle.stored_table.specs.Places.{Place, among}
 use Rattle.stored_table.specs.Decoded.{AllRecords}
-use Rattle.stored_table.specs.Exact.{ref_of, lease_record, opens_under, lease_of, exact_lease}
+use Rattle.stored_table.specs.Exact.{ref_of, lease_record, lease_of, exact_lease}
 use Rattle.table_laws.specs.Standing.{IsUnnamed}
 use Rattle.table_laws.proofs.Lists.{filter_every}
 use Rattle.table_laws.proofs.Contained.{share_place, ranges_place, lock_place, lease_place, register_place, mail_place, SameFile, WaitsStep, IsMetName, Contained}

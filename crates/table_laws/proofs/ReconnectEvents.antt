@@ -2,10 +2,10 @@
 --
 -- The open that is taken over has a new owner and handle. The records of its file and of the leases there are written, and an open record under
 -- its new handle is added; the one under its id stays.
-use Rattle.std.proofs.Common.{◌≡◌, ℕ, ◌<◌, ◌≤◌, ◌^◌, Bool, true, false, cond, not, ◌==◌, ◌&&◌, List, [], ◌∷◌, ◌++◌, map, filter, Option, Some, None, refl, sym, ap, ◌∙◌, subst, inl, inr, ◌⊎◌, arith}
+use Rattle.std.proofs.Common.{◌≡◌, ℕ, ◌<◌, ◌≤◌, ◌^◌, Bool, true, false, ◌==◌, ◌&&◌, List, [], ◌∷◌, ◌++◌, map, Option, Some, None, refl, sym, ap, ◌∙◌, subst, inl, inr, ◌⊎◌, arith}
 use Rattle.std.specs.List.{list_any, list_all, AllByRecursion, flat_map}
 use Rattle.std.specs.Option.{option_map, option_map_or, option_and_then}
-use Rattle.std.proofs.lemmas.Bool.{and_parts, and_from, both_ways, cond_both, cond-false, eqb-true, eq-eqb, false_from_ne_true}
+use Rattle.std.proofs.lemmas.Bool.{and_parts, both_ways, cond_both, cond-false, eqb-true, eq-eqb, false_from_ne_true}
 use Rattle.std.proofs.lemmas.List.Folds.{list_all-map}
 use Rattle.sid_core.specs.declared.call.Call.{Call}
 use Rattle.sid_core.specs.declared.call.Call.TheVariants.{Reconnect}
@@ -23,9 +23,7 @@ use Rattle.sid_core.specs.Setup.{IsSetup}
 use Rattle.sid_core.specs.Ids.{same_id}
 use Rattle.serial_table.specs.declared.rows.OpenRow.{OpenRow}
 use Rattle.serial_table.specs.declared.rows.LeaseRow.{LeaseRow}
-use Rattle.serial_table.specs.declared.rows.WorkerRow.{WorkerRow}
 use Rattle.serial_table.specs.declared.table.Table.{Table}
-use Rattle.serial_table.specs.declared.change.Change.{Change}
 use Rattle.serial_table.specs.declared.change.Change.TheVariants as c
 use Rattle.serial_table.specs.declared.decision.Caller.{Caller}
 use Rattle.serial_table.specs.declared.decision.Decision.{Decision}
@@ -35,14 +33,14 @@ use Rattle.serial_table.specs.File.{file_view, file_open}
 use Rattle.serial_table.specs.Settle.{settle, settle_where, settle_file, row_stays}
 use Rattle.serial_table.specs.Change.{perform, perform_all, is_open, new_owner}
 use Rattle.serial_table.specs.Decide.{decide, outcome}
-use Rattle.serial_table.specs.Decision.{Outcome, conclude, only_reply}
+use Rattle.serial_table.specs.Decision.{conclude, only_reply}
 use Rattle.serial_table.specs.Durable.{can_be_taken}
 use Rattle.serial_table.specs.Expire.{names_at, names_beside, carried_by, look, is_due, due, expires, expired_by}
 use Rattle.serial_table.specs.Reconnect.{take_over, reconnect_first, made_by, reconnect}
-use Rattle.serial_table.specs.Step.{caller_of, changes_of, declared_at}
-use Rattle.serial_table.specs.History.{start, after, after_event, IsLegal, IsLegalCall}
+use Rattle.serial_table.specs.Step.{caller_of, declared_at}
+use Rattle.serial_table.specs.History.{start, after, IsLegal, IsLegalCall}
 use Rattle.serial_table.specs.Sound.{AreBelow, have_same_id}
-use Rattle.serial_table.specs.InSets.{IsOpenRow, IsWorkerRow}
+use Rattle.serial_table.specs.InSets.{IsWorkerRow}
 use Rattle.serial_table.proofs.SameIds.{same_id-eq, eqb-flip}
 use Rattle.serial_table.proofs.Alike.{after_all-append}
 use Rattle.serial_table.proofs.Along.{legal_before}
@@ -53,7 +51,7 @@ use Rattle.serial_table.proofs.Expiring.{expired_all, settles_all, after_all-set
 use Rattle.serial_table.proofs.Filters.{filter-map, map_left_alone}
 use Rattle.serial_table.proofs.Living.{row_of}
 use Rattle.serial_table.proofs.Members.{IsIn, some_same, all_each, all_of, any_of, one_of, one_in, in_filter, in_map, in_flat_map, passes_in}
-use Rattle.serial_table.proofs.Views.{file-new_owner, id-new_owner, view-perform_all}
+use Rattle.serial_table.proofs.Views.{file-new_owner, view-perform_all}
 use Rattle.serial_table.proofs.Concluding.{perform_all-append}
 use Rattle.chain_map.specs.declared.db.Db.TheVariants as db
 use Rattle.record_codec.specs.declared.open_rec.OpenRec.{OpenRec}
@@ -61,7 +59,7 @@ use Rattle.record_codec.specs.OpenRec.{open_rec}
 use Rattle.stored_table.specs.Keys.{open_key, pid_key, name_key, file_key}
 use Rattle.stored_table.specs.Places.{Chains, Place, place, among}
 use Rattle.stored_table.specs.Decoded.{AllRecords, records_of}
-use Rattle.stored_table.specs.Met.{KeyList, Met, met_by_call, met_by_reconnect, all_met, exact_places, places_in, named_at, file_of, nothing_met, record_at}
+use Rattle.stored_table.specs.Met.{KeyList, met_by_call, met_by_reconnect, all_met, named_at, file_of, nothing_met, record_at}
 use Rattle.stored_table.specs.Move.{AddedOpen, added, added_for, move, places_written}
 use Rattle.stored_table.specs.Moved.{moved}
 use Rattle.stored_table.specs.Stands.{HasOpenRecords, StandsFor}

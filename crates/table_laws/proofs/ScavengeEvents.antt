@@ -3,12 +3,11 @@
 -- It writes every record of files, leases and workers, and the mailboxes of all who are watched there. A file may have a share mode record
 -- and no record of ranges, or the other way round: opens go only whose owner lives no longer, with their ranges, so each record that isn't there
 -- stands for what is left.
-use Rattle.std.proofs.Common.{◌≡◌, ℕ, ◌≤◌, Bool, true, false, cond, not, ◌==◌, ◌&&◌, List, [], ◌∷◌, ◌++◌, map, filter, find, Option, Some, None, refl, sym, ap, ◌∙◌, subst, inl, inr}
-use Rattle.std.specs.List.{list_any, list_all, AllByRecursion, flat_map}
+use Rattle.std.proofs.Common.{◌≡◌, ℕ, ◌≤◌, Bool, true, false, not, ◌==◌, ◌&&◌, List, [], ◌∷◌, ◌++◌, map, filter, find, Option, Some, None, refl, sym, ap, ◌∙◌, subst, inl, inr}
+use Rattle.std.specs.List.{list_all, AllByRecursion, flat_map}
 use Rattle.std.specs.Option.{option_map, option_map_or, option_and_then}
 use Rattle.std.proofs.lemmas.Bool.{and_parts, and_from, eqb-true, not-true}
 use Rattle.std.proofs.lemmas.List.Folds.{list_all-append, list_all-map}
-use Rattle.sid_core.specs.declared.call.Call.{Call}
 use Rattle.sid_core.specs.declared.call.Call.TheVariants.{Scavenge}
 use Rattle.sid_core.specs.declared.entry.Entry.{Entry}
 use Rattle.sid_core.specs.declared.entry.Event.TheVariants.{Called}
@@ -20,7 +19,6 @@ use Rattle.sid_core.specs.declared.ids.Spot.{Spot}
 use Rattle.sid_core.specs.declared.ids.Spot.TheVariants.{OpenOf, RangesOf}
 use Rattle.sid_core.specs.declared.reply.Reply.{Reply}
 use Rattle.sid_core.specs.declared.setup.Setup.{Setup}
-use Rattle.sid_core.specs.declared.setup.WorkerInfo.{WorkerInfo}
 use Rattle.sid_core.specs.Setup.{IsSetup}
 use Rattle.sid_core.specs.Ids.{same_id}
 use Rattle.sid_core.specs.Values.{has}
@@ -37,21 +35,21 @@ use Rattle.serial_table.specs.declared.decision.Decision.{Decision}
 use Rattle.serial_table.specs.View.{View, view, lives, carries, has_pid, has_name, is_of_file, is_hold_of, is_end_of}
 use Rattle.serial_table.specs.File.{FileView}
 use Rattle.serial_table.specs.Settle.{settle}
-use Rattle.serial_table.specs.Change.{perform_all, is_open, is_lease}
+use Rattle.serial_table.specs.Change.{perform_all}
 use Rattle.serial_table.specs.Decide.{decide, outcome}
 use Rattle.serial_table.specs.Decision.{Outcome, conclude, waits_no_more, spots_of, woken_by}
 use Rattle.serial_table.specs.Wake.{wake}
 use Rattle.serial_table.specs.Durable.{is_expired}
-use Rattle.serial_table.specs.Expire.{look, is_due, due, needed_of, expires, then_settles, expired_by}
+use Rattle.serial_table.specs.Expire.{look, due, needed_of, expires, then_settles, expired_by}
 use Rattle.serial_table.specs.Scavenge.{files_of, has_expired, all_expired, goes, scavenge}
 use Rattle.serial_table.specs.Step.{caller_of, changes_of}
 use Rattle.serial_table.specs.History.{start, after, IsLegal, IsLegalCall}
-use Rattle.serial_table.specs.Sound.{AllFit, IsConsistent, have_same_id, have_same_name, has_open, is_open_under, states_agree}
+use Rattle.serial_table.specs.Sound.{AllFit, have_same_id, have_same_name, has_open, is_open_under, states_agree}
 use Rattle.serial_table.proofs.SameIds.{same_name-eq, same_name-flip, eqb-flip}
 use Rattle.serial_table.proofs.Alike.{after_all-append}
 use Rattle.serial_table.proofs.Along.{legal_before}
 use Rattle.serial_table.proofs.Callers.{is_caller_of}
-use Rattle.serial_table.proofs.Concluding.{conclude_all, start-settled}
+use Rattle.serial_table.proofs.Concluding.{start-settled}
 use Rattle.serial_table.proofs.Entries.{entry_fits}
 use Rattle.serial_table.proofs.Expiring.{behind, expired_all, expired_workers, due_there, after_all-settled}
 use Rattle.serial_table.proofs.ExpiringFits.{expired_fits}
@@ -72,9 +70,8 @@ use Rattle.record_codec.specs.Counts.{watch_counts, settled_lease}
 use Rattle.stored_table.specs.Keys.{name_key, file_key, pid_key}
 use Rattle.stored_table.specs.Places.{Chains, Place, among}
 use Rattle.stored_table.specs.Decoded.{AllRecords, deciding, records_of}
-use Rattle.stored_table.specs.Exact.{lease_of, exact_lease, lease_with, opens_under, ref_of}
+use Rattle.stored_table.specs.Exact.{lease_of, lease_with, opens_under, ref_of}
 use Rattle.stored_table.specs.Met.{KeyList, Met, all_keys, all_met, met_by_call, met_everywhere, named_at, nothing_met, record_at, watchers, watchers_everywhere}
-use Rattle.stored_table.specs.Move.{move}
 use Rattle.stored_table.specs.Shown.{part_of, watch_row, open_watches, range_watches}
 use Rattle.stored_table.specs.Stands.{StandsFor}
 use Rattle.stored_table.proofs.Telling.{none_in, file_tells}
@@ -89,7 +86,7 @@ use Rattle.table_laws.proofs.Lessened.{Lessened}
 use Rattle.table_laws.proofs.LessEvents.{fine_before, fine_after, less_stands, drops_thin, sends_thin}
 use Rattle.table_laws.proofs.Meets.{later_in, flat_mapped_in, lease_met, mail_met}
 use Rattle.table_laws.proofs.Thinning.{Thins, IsThinned, needs_less, thinned, less_file, less_handles}
-use Rattle.table_laws.proofs.Touching.{touches, reaches, IsNewIn, Along, along, waits_refl, same_refl}
+use Rattle.table_laws.proofs.Touching.{touches, reaches, IsNewIn, Along, along, waits_refl}
 
 -- what a record has is in its list
 part_in : {R X : Type 0} (f : R → List X) (o : Option R) (x : X) → IsIn x (part_of f o) → (r : R) × (o ≡ Some r) × IsIn x (f r)

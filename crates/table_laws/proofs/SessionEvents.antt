@@ -1,12 +1,11 @@
 -- `disconnect` keeps what the databases stand for, where no record names the session that begins.
 --
 -- It writes what a death writes. The session that begins has no part in any record, so nothing stale comes to count.
-use Rattle.std.proofs.Common.{◌≡◌, ℕ, ◌+◌, ◌≤◌, Bool, true, false, cond, not, ◌==◌, ◌&&◌, List, [], ◌∷◌, ◌++◌, map, filter, find, Option, Some, None, refl, sym, ap, ◌∙◌, subst, inl, inr, ◌⊎◌, arith}
+use Rattle.std.proofs.Common.{◌≡◌, ℕ, ◌+◌, ◌≤◌, Bool, true, false, cond, not, ◌==◌, ◌&&◌, List, [], ◌∷◌, ◌++◌, map, find, Option, Some, None, refl, sym, ap, ◌∙◌, subst, inl, inr, ◌⊎◌, arith}
 use Rattle.std.specs.Prelude.{nat_le}
-use Rattle.std.specs.List.{list_any, AllByRecursion}
+use Rattle.std.specs.List.{AllByRecursion}
 use Rattle.std.specs.Option.{option_map, option_map_or}
 use Rattle.std.proofs.lemmas.Bool.{and_parts, and_left, cond-false, eqb-true, leb-true, false_from_ne_true}
-use Rattle.sid_core.specs.declared.call.Call.{Call}
 use Rattle.sid_core.specs.declared.call.Call.TheVariants.{Disconnect}
 use Rattle.sid_core.specs.declared.entry.Entry.{Entry}
 use Rattle.sid_core.specs.declared.entry.Event.TheVariants.{Called}
@@ -18,7 +17,6 @@ use Rattle.sid_core.specs.declared.setup.Setup.{Setup}
 use Rattle.sid_core.specs.Setup.{IsSetup}
 use Rattle.sid_core.specs.Ids.{same_sid}
 use Rattle.serial_table.specs.declared.rows.OpenRow.{OpenRow}
-use Rattle.serial_table.specs.declared.rows.Watch.{Watch}
 use Rattle.serial_table.specs.declared.rows.WorkerRow.{WorkerRow}
 use Rattle.serial_table.specs.declared.table.Table.{Table}
 use Rattle.serial_table.specs.declared.change.Change.{Change}
@@ -33,8 +31,8 @@ use Rattle.serial_table.specs.Session.{end_of_session, wakes_behind}
 use Rattle.serial_table.specs.Disconnect.{disconnect}
 use Rattle.serial_table.specs.Decide.{outcome}
 use Rattle.serial_table.specs.Expire.{expired_by}
-use Rattle.serial_table.specs.Step.{caller_of, changes_of, declared_at}
-use Rattle.serial_table.specs.History.{start, after, after_event, IsLegal, IsLegalCall}
+use Rattle.serial_table.specs.Step.{caller_of, changes_of}
+use Rattle.serial_table.specs.History.{start, after, IsLegal, IsLegalCall}
 use Rattle.serial_table.specs.Sound.{AllFit, IsConsistent, has_had}
 use Rattle.serial_table.proofs.Alike.{after_all-append}
 use Rattle.serial_table.proofs.Along.{legal_before}
@@ -44,11 +42,11 @@ use Rattle.serial_table.proofs.Entries.{entry_fits}
 use Rattle.serial_table.proofs.Filters.{find-map}
 use Rattle.serial_table.proofs.Living.{lives_among, row_of, none_lives, lives-begin_session}
 use Rattle.serial_table.proofs.Members.{IsIn, found_in, in_filter, each}
-use Rattle.serial_table.proofs.Settled.{IsSettled, files_settled, settled_by_files, settle-settle}
+use Rattle.serial_table.proofs.Settled.{files_settled, settled_by_files, settle-settle}
 use Rattle.serial_table.proofs.Views.{pid-begin_session}
-use Rattle.stored_table.specs.Places.{Chains, Place}
+use Rattle.stored_table.specs.Places.{Chains}
 use Rattle.stored_table.specs.Decoded.{AllRecords, records_of}
-use Rattle.stored_table.specs.Met.{Met, met_by_call, met_by_worker, all_met, nothing_met}
+use Rattle.stored_table.specs.Met.{met_by_call, met_by_worker, all_met, nothing_met}
 use Rattle.stored_table.specs.Stands.{StandsFor}
 use Rattle.table_laws.specs.Standing.{IsUnnamed, next_sid, KeepsStandingIfUnnamed}
 use Rattle.table_laws.proofs.Lists.{all_joined, same_test}

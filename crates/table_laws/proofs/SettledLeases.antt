@@ -1,13 +1,11 @@
 -- What settling makes of a lease whose opens thinned out is what settling makes of its exact record.
-use Rattle.std.proofs.Common.{◌≡◌, ℕ, Bool, true, false, cond, not, ◌==◌, ◌&&◌, ◌||◌, List, [], ◌∷◌, map, filter, Option, Some, None, refl, sym, ap, ◌∙◌, subst, inl, inr}
+use Rattle.std.proofs.Common.{◌≡◌, ℕ, Bool, true, false, cond, not, ◌==◌, ◌&&◌, ◌||◌, List, [], ◌∷◌, map, filter, Option, Some, None, refl, sym, ap, ◌∙◌, subst, inl}
 use Rattle.std.specs.List.{list_any}
 use Rattle.std.specs.Option.{option_map_or, option_and_then}
-use Rattle.std.proofs.lemmas.Bool.{and_parts, and_from, eqb-true, eq-eqb}
+use Rattle.std.proofs.lemmas.Bool.{eq-eqb}
 use Rattle.std.proofs.Math.Bool.{and-false}
 use Rattle.sid_core.specs.declared.ids.Sid.{Sid}
 use Rattle.sid_core.specs.declared.ids.LeaseName.{LeaseName}
-use Rattle.sid_core.specs.declared.bits.LeaseState.{LeaseState}
-use Rattle.sid_core.specs.Ids.{same_name}
 use Rattle.sid_core.specs.Values.{has}
 use Rattle.serial_table.specs.declared.rows.OpenRow.{OpenRow}
 use Rattle.serial_table.specs.declared.rows.LeaseRow.{LeaseRow}
@@ -20,7 +18,7 @@ use Rattle.serial_table.specs.Settle.{broken_to_needed, settled_lease, lacks_han
 use Rattle.serial_table.specs.Sound.{IsSound, is_durable}
 use Rattle.serial_table.proofs.SameIds.{same_name-eq}
 use Rattle.serial_table.proofs.Views.{name-settled_lease, file-settled_lease}
-use Rattle.serial_table.proofs.Members.{IsIn, none_of, all_by, in_filter, mapped_in, passes_in}
+use Rattle.serial_table.proofs.Members.{IsIn, none_of, all_by, in_filter, mapped_in}
 use Rattle.record_codec.specs.declared.lease_rec.LeaseRef.{LeaseRef}
 use Rattle.record_codec.specs.declared.lease_rec.LeaseRec.{LeaseRec}
 use Rattle.record_codec.specs.Counts as record_

@@ -1,19 +1,18 @@
 -- Lease records as settling leaves them: by who lives alone, and what is left of them.
-use Rattle.std.proofs.Common.{◌≡◌, Bool, true, false, cond, not, ◌==◌, ◌&&◌, ◌||◌, List, [], ◌∷◌, map, filter, Option, Some, None, ℕ, refl, sym, ap, ◌∙◌, subst, inl, inr, ◌⊎◌}
+use Rattle.std.proofs.Common.{◌≡◌, Bool, true, false, cond, not, ◌==◌, ◌&&◌, ◌||◌, List, [], ◌∷◌, filter, Option, Some, None, ℕ, refl, sym, ap, ◌∙◌, inl, inr, ◌⊎◌}
 use Rattle.std.specs.Prelude.{IfSome}
 use Rattle.std.specs.List.{list_any}
 use Rattle.std.specs.Option.{option_and_then}
 use Rattle.std.proofs.lemmas.Bool.{and_parts, and_from, or_left, or_right, or_cases, both_ways, not_from_false, false_from_ne_true}
 use Rattle.sid_core.specs.declared.ids.Sid.{Sid}
 use Rattle.sid_core.specs.declared.ids.OpenId.{OpenId}
-use Rattle.sid_core.specs.declared.ids.LeaseName.{LeaseName}
 use Rattle.sid_core.specs.declared.bits.LeaseState.{LeaseState}
 use Rattle.sid_core.specs.Ids.{same_id}
 use Rattle.sid_core.specs.Values.{has}
 use Rattle.serial_table.proofs.Members.{IsIn, some_same, one_of, any_of, in_filter, passes_in}
 use Rattle.record_codec.specs.declared.lease_rec.LeaseRef.{LeaseRef}
 use Rattle.record_codec.specs.declared.lease_rec.LeaseRec.{LeaseRec}
-use Rattle.record_codec.specs.Counts.{Records, lives, is_connected, is_unanswered, settled_state, ref_counts, settled_refs, with_refs, unless_empty, settled_lease, keeps, is_kept}
+use Rattle.record_codec.specs.Counts.{Records, lives, is_connected, is_unanswered, settled_state, ref_counts, settled_refs, with_refs, unless_empty, settled_lease, keeps}
 use Rattle.stored_table.specs.Exact.{is_empty}
 use Rattle.table_laws.proofs.Lists.{filter_each, filter_every, filter_twice}
 

@@ -1,8 +1,8 @@
 -- What an entry writes stands for the table after it, where it does nothing beside the places that it writes.
-use Rattle.std.proofs.Common.{◌≡◌, ℕ, Bool, true, false, cond, not, ◌==◌, ◌&&◌, ◌||◌, List, [], ◌∷◌, ◌++◌, map, filter, find, Option, Some, None, refl, sym, ap, ap₂, ◌∙◌, subst, inl, inr, ◌⊎◌}
+use Rattle.std.proofs.Common.{◌≡◌, ℕ, Bool, true, false, cond, not, ◌==◌, ◌&&◌, List, [], ◌∷◌, map, filter, Option, Some, None, refl, sym, ap, ◌∙◌, subst, inl, inr, ◌⊎◌}
 use Rattle.std.specs.Prelude.{IfSome}
 use Rattle.std.specs.List.{list_any, AllByRecursion}
-use Rattle.std.specs.Option.{option_map, option_map_or, option_and_then}
+use Rattle.std.specs.Option.{option_map, option_and_then}
 use Rattle.std.proofs.lemmas.Bool.{and_parts, and_from, or_left, or_right, or_cases, both_ways, eqb-true, eq-eqb, false_from_ne_true}
 use Rattle.std.proofs.Math.Bool.{and-false}
 use Rattle.sid_core.specs.declared.ids.Sid.{Sid}
@@ -17,9 +17,6 @@ use Rattle.sid_core.specs.declared.setup.FileInfo.{FileInfo}
 use Rattle.sid_core.specs.declared.setup.Setup.{Setup}
 use Rattle.serial_table.specs.declared.rows.OpenRow.{OpenRow}
 use Rattle.serial_table.specs.declared.rows.LeaseRow.{LeaseRow}
-use Rattle.serial_table.specs.declared.rows.RangeRow.{RangeRow}
-use Rattle.serial_table.specs.declared.rows.HoldRow.{HoldRow}
-use Rattle.serial_table.specs.declared.rows.Watch.{Watch}
 use Rattle.serial_table.specs.declared.rows.WorkerRow.{WorkerRow}
 use Rattle.serial_table.specs.declared.table.Table.{Table}
 use Rattle.serial_table.specs.ByNumber.{declared_at}
@@ -30,7 +27,6 @@ use Rattle.serial_table.specs.InSets.{IsInSets}
 use Rattle.serial_table.proofs.Filters.{any_filtered}
 use Rattle.serial_table.proofs.SameIds.{eqb-flip, same_id-refl, same_name-refl, same_sid-refl}
 use Rattle.serial_table.proofs.Members.{IsIn, each, all_of, all_by, any_of, one_of, in_filter, passes_in, mapped_in, in_map, found_in, one_in}
-use Rattle.chain_map.specs.declared.db.Db.TheVariants as db
 use Rattle.record_codec.specs.declared.watch.WatchRec.{WatchRec}
 use Rattle.record_codec.specs.declared.glock_rec.Hold.{Hold}
 use Rattle.record_codec.specs.declared.glock_rec.GLockRec.{GLockRec}
@@ -41,24 +37,23 @@ use Rattle.record_codec.specs.declared.lease_rec.LeaseRec.{LeaseRec}
 use Rattle.record_codec.specs.declared.register_rec.RegisterRec.{RegisterRec}
 use Rattle.record_codec.specs.declared.range_rec.RangeRec.{RangeRec}
 use Rattle.record_codec.specs.declared.range_rec.RangeItem.{RangeItem}
-use Rattle.record_codec.specs.declared.mail_rec.MailRec.{MailRec}
 use Rattle.record_codec.specs.Counts.{Records, is_current, lives, hold_counts, has_token, has_token_at, watch_counts, register_watch_counts, ref_counts, settled_state, settled_lease, keeps, is_kept, entry_counts, pending_counts, entry_of_id_counts, id_counts, range_counts}
-use Rattle.stored_table.specs.Places.{Place, place, among}
+use Rattle.stored_table.specs.Places.{Place, among}
 use Rattle.stored_table.specs.Decoded.{AllRecords, deciding}
-use Rattle.stored_table.specs.Exact.{is_empty, unless_both_empty, entry_of, ref_of, item_of, hold_of, watch_of, share_of, ranges_of, exact_share, exact_ranges, exact_lock, lease_with, opens_under, exact_lease, register_record, exact_register, token_of, mail_record, mail_of_session, mail_if_alive, exact_mail}
-use Rattle.stored_table.specs.Shown.{part_of, valid_entries}
+use Rattle.stored_table.specs.Exact.{is_empty, unless_both_empty, entry_of, ref_of, item_of, hold_of, watch_of, share_of, ranges_of, exact_share, exact_ranges, exact_lock, lease_with, opens_under, exact_lease, register_record, exact_register, token_of, mail_record, mail_if_alive, exact_mail}
+use Rattle.stored_table.specs.Shown.{part_of}
 use Rattle.stored_table.specs.Move.{AddedOpen}
 use Rattle.stored_table.specs.Moved.{moved}
 use Rattle.stored_table.specs.Stands.{AgreeWith, HasOpenRecords, clean_share, clean_ranges, clean_lock, clean_register}
 use Rattle.stored_table.proofs.Telling.{none_in, entries_exact, no_opens, no_ranges, entries_are, current_clean, current_exact, lives_alike}
 use Rattle.table_laws.specs.Standing.{IsUnnamed}
 use Rattle.table_laws.proofs.Lists.{filter_each, filter_every, filter_twice, filter_mapped, any_in_filter, any_mapped, any_alike}
-use Rattle.table_laws.proofs.Contained.{share_place, ranges_place, lock_place, lease_place, register_place, mail_place, spot_place, register_watchers}
+use Rattle.table_laws.proofs.Contained.{share_place, ranges_place, lock_place, lease_place, register_place, mail_place, spot_place}
 use Rattle.table_laws.proofs.Lessened.{KeepsHandle, LessFile, Lessened}
 use Rattle.table_laws.proofs.Tokens.{counts_at, counts_anywhere}
 use Rattle.table_laws.proofs.Watching.{tokens_stay, waits_there, watches_stay, behind_stay, waits_anywhere, own_tokens, own_tokens_behind}
 use Rattle.table_laws.proofs.Settling.{AreOwnersLess, is_left, some_left_by, settled_again, keeps_less}
-use Rattle.table_laws.proofs.Exactly.{refs_back, in_opens, of_file, IsUnder, in_refs, exact_is, lease_row_of, kept_by_lease, entry_exact, exact_settled, IsKeptBy, kept_by}
+use Rattle.table_laws.proofs.Exactly.{refs_back, in_opens, of_file, IsUnder, in_refs, exact_is, lease_row_of, kept_by_lease, entry_exact, exact_settled, kept_by}
 
 -- ---- what is written, or else as before
 

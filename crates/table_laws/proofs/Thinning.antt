@@ -1,12 +1,11 @@
 -- What is left of files and leases along changes after which opens go only whose owner lives no longer.
-use Rattle.std.proofs.Common.{◌≡◌, ℕ, Bool, true, false, cond, not, ◌==◌, ◌&&◌, ◌||◌, List, [], ◌∷◌, map, filter, Option, Some, None, refl, sym, ap, ◌∙◌, subst, inl, inr, ◌⊎◌}
+use Rattle.std.proofs.Common.{◌≡◌, ℕ, Bool, true, false, cond, not, ◌==◌, ◌&&◌, ◌||◌, List, [], ◌∷◌, map, filter, Option, Some, None, refl, sym, ap, ◌∙◌, subst}
 use Rattle.std.specs.List.{list_any, AllByRecursion}
 use Rattle.std.proofs.lemmas.Bool.{and_parts, and_from, or_parts, both_ways, cond_both, cond-true, eqb-true, false_from_ne_true, not_from_false, true_from_ne_false}
 use Rattle.std.proofs.Math.Bool.{and-false}
 use Rattle.sid_core.specs.declared.ids.Sid.{Sid}
 use Rattle.sid_core.specs.declared.ids.OpenId.{OpenId}
 use Rattle.sid_core.specs.declared.ids.LeaseName.{LeaseName}
-use Rattle.sid_core.specs.declared.bits.LeaseState.{LeaseState}
 use Rattle.sid_core.specs.Ids.{same_id, same_sid}
 use Rattle.sid_core.specs.Values.{has, is_state, is_part_of}
 use Rattle.serial_table.specs.declared.rows.OpenRow.{OpenRow}
@@ -21,15 +20,14 @@ use Rattle.serial_table.specs.File.{FileView, file_view, file_open, is_under}
 use Rattle.serial_table.specs.Settle.{settle_where, settle_by_key, broken_to_needed, settled_lease, keeps_open, keeps_range, row_stays, range_stays, lease_stays, lease_settles, pending_stays, keeps_pending}
 use Rattle.serial_table.specs.Change.{perform, perform_all, is_open, is_other_open, is_other_range, outlives, range_outlives, is_lease, set_lease}
 use Rattle.serial_table.specs.Sound.{IsConsistent, IsSound, AllFit, Fits, have_same_id, has_its_open, states_agree, breaks_well}
-use Rattle.serial_table.proofs.SameIds.{same_id-eq, same_id-refl, eqb-flip}
+use Rattle.serial_table.proofs.SameIds.{same_id-eq, eqb-flip}
 use Rattle.serial_table.proofs.Names.{same_sid-eq}
 use Rattle.serial_table.proofs.Views.{name-settled_lease, file-settled_lease}
 use Rattle.serial_table.proofs.Filters.{filter-filter, any_filtered}
-use Rattle.serial_table.proofs.Files.{file-set_lease}
 use Rattle.serial_table.proofs.Living.{lives-end_session, lives-begin_session}
 use Rattle.serial_table.proofs.Consistent.{consistent-perform}
-use Rattle.serial_table.proofs.Members.{IsIn, each, any_of, one_of, none_of, any_none, all_by, in_filter, passes_in, in_map, one_in}
-use Rattle.table_laws.proofs.Lists.{filter_each, filter_every, filter_twice, any_alike, any_mapped, same_test}
+use Rattle.serial_table.proofs.Members.{IsIn, each, any_of, one_of, any_none, in_filter, passes_in, in_map, one_in}
+use Rattle.table_laws.proofs.Lists.{filter_each, filter_every, filter_twice, any_mapped, same_test}
 use Rattle.table_laws.proofs.Handles.{each_three, if_so}
 use Rattle.table_laws.proofs.Lessened.{LessFile, same_pending}
 
@@ -373,6 +371,6 @@ module _ (t u : Table) (sound : IsSound u) (h : IsThinned (lives (view u)) t u) 
       let g = h.leases l named.0 in (
         g.row,
         passes_in (λ (x : LeaseRow). x.file == file) ((view t).leases_of name) g.row
-        (passes_in (has_name name) t.leases g.row g.there (ap (λ n. Rattle.sid_core.specs.Ids.same_name n name) g.name ∙ named.1)) (ap (λ f. f == file) g.file ∙ of.1),
+            (passes_in (has_name name) t.leases g.row g.there (ap (λ n. Rattle.sid_core.specs.Ids.same_name n name) g.name ∙ named.1)) (ap (λ f. f == file) g.file ∙ of.1),
         g.handle e,
       )

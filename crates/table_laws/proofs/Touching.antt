@@ -1,14 +1,12 @@
 -- Changes that touch the rows of certain files alone, and waiters, letters and holds whose records are written, do nothing beside.
 use Rattle.std.proofs.Common.{◌≡◌, ℕ, Bool, true, false, cond, not, ◌==◌, ◌&&◌, ◌||◌, List, [], ◌∷◌, ◌++◌, map, filter, Option, Some, None, refl, sym, ap, ◌∙◌, subst, inl, inr, ◌⊎◌, eq-eqb}
 use Rattle.std.specs.Prelude.{IfSome}
-use Rattle.std.specs.List.{list_any, list_all, AllByRecursion}
+use Rattle.std.specs.List.{list_all, AllByRecursion}
 use Rattle.std.specs.Option.{option_map_or}
-use Rattle.std.proofs.lemmas.Bool.{and_parts, and_from, and_left, and_right, both_ways, eqb-true, cond-false, false_from_ne_true, not_from_false, cases_Bool}
+use Rattle.std.proofs.lemmas.Bool.{and_parts, and_left, both_ways, eqb-true, cond-false, false_from_ne_true, not_from_false}
 use Rattle.sid_core.specs.declared.ids.Sid.{Sid}
 use Rattle.sid_core.specs.declared.ids.LeaseName.{LeaseName}
-use Rattle.sid_core.specs.declared.call.Mode.{Mode}
 use Rattle.sid_core.specs.declared.setup.Setup.{Setup}
-use Rattle.sid_core.specs.declared.entry.Post.{Post}
 use Rattle.sid_core.specs.Ids.{same_sid}
 use Rattle.serial_table.specs.declared.rows.OpenRow.{OpenRow}
 use Rattle.serial_table.specs.declared.rows.HoldRow.{HoldRow}
@@ -16,22 +14,20 @@ use Rattle.serial_table.specs.declared.rows.WaiterRow.{WaiterRow}
 use Rattle.serial_table.specs.declared.table.Table.{Table}
 use Rattle.serial_table.specs.declared.change.Change.{Change}
 use Rattle.serial_table.specs.declared.change.Change.TheVariants as c
-use Rattle.serial_table.specs.View.{view, lives, is_of_file, is_hold_of, is_to, leases_at}
+use Rattle.serial_table.specs.View.{view, lives, is_of_file, is_hold_of, is_to}
 use Rattle.serial_table.specs.File.{file_view, file_open}
-use Rattle.serial_table.specs.Settle.{settle, settle_where, settle_file}
+use Rattle.serial_table.specs.Settle.{settle, settle_where}
 use Rattle.serial_table.specs.Change.{perform, perform_all, is_hold, set_hold, is_other_wait}
 use Rattle.serial_table.specs.Local.{is_in, perform_beside}
 use Rattle.serial_table.proofs.Names.{same_sid-eq}
-use Rattle.serial_table.proofs.SameIds.{same_sid-refl}
-use Rattle.serial_table.proofs.SameWorkers.{keeps_workers, workers-perform}
-use Rattle.serial_table.proofs.Members.{IsIn, in_filter, in_push, in_append, old_in}
+use Rattle.serial_table.proofs.Members.{IsIn, in_filter, in_push}
 use Rattle.serial_table.proofs.Filters.{filter_one_out, filter_dropped_out, map_left_alone}
 use Rattle.serial_table.proofs.Views.{view-perform}
 use Rattle.serial_table.proofs.Files.{file_view-perform}
 use Rattle.serial_table.proofs.Apart.{file_view-beside}
 use Rattle.serial_table.proofs.Settled.{IsSettled, files_settled}
 use Rattle.serial_table.proofs.OtherFiles.{leaves_others, leaves_settled}
-use Rattle.stored_table.specs.Places.{Place, place, among}
+use Rattle.stored_table.specs.Places.{Place, among}
 use Rattle.stored_table.specs.Decoded.{AllRecords}
 use Rattle.table_laws.proofs.Lists.{filter_every, filter_joined, filter_twice}
 use Rattle.table_laws.proofs.Contained.{share_place, ranges_place, lock_place, lease_place, register_place, mail_place, spot_place, SameFile, register_watchers, IsMetWaiter, WaitsStep, IsMetName, Contained}
