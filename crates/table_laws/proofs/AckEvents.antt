@@ -1,11 +1,7 @@
 -- `ack` keeps what the databases stand for.
-use Rattle.std.proofs.Common.{◌≡◌, ℕ, zero, suc, ◌+◌, ◌*◌, ◌-◌, ◌<◌, ◌≤◌, ◌%◌, Bool, true, false, cond, not, ◌==◌, ◌&&◌, ◌||◌, List, [], ◌∷◌, ◌++◌, map, filter, Option, Some, None, refl, sym, ap, ◌∙◌, subst, inl, inr, arith}
-use Rattle.std.specs.Prelude.{is_some}
-use Rattle.std.specs.Ordering.{eq_by_cmp}
+use Rattle.std.proofs.Common.{◌≡◌, ℕ, Bool, true, ◌==◌, List, [], ◌∷◌, ◌++◌, map, Option, Some, None, refl, sym, ap, ◌∙◌, subst, inl, inr}
 use Rattle.std.specs.List.{list_any, list_all, flat_map}
 use Rattle.std.specs.Option.{option_map_or}
-use Rattle.std.specs.FinMap.Entries.{is_some-find}
-use Rattle.std.proofs.Math.Nat.{mod-lt}
 use Rattle.std.proofs.lemmas.Bool.{and_parts, and_from, cond_both, eqb-true, eq-eqb}
 use Rattle.std.proofs.lemmas.List.Folds.{list_all-map}
 use Rattle.sid_core.specs.declared.bits.LeaseState.{LeaseState}
@@ -15,7 +11,6 @@ use Rattle.sid_core.specs.declared.ids.LeaseName.{LeaseName}
 use Rattle.sid_core.specs.declared.ids.Moment.{Moment}
 use Rattle.sid_core.specs.declared.ids.Sid.{Sid}
 use Rattle.sid_core.specs.declared.ids.Spot.{Spot}
-use Rattle.sid_core.specs.declared.ids.Spot.TheVariants.{OpenOf, RangesOf}
 use Rattle.sid_core.specs.declared.reply.Reply.{Reply}
 use Rattle.sid_core.specs.declared.reply.Reply.TheVariants.{Unsuccessful, RequestNotAccepted, ObjectNameNotFound}
 use Rattle.sid_core.specs.declared.setup.Setup.{Setup}
@@ -27,75 +22,44 @@ use Rattle.serial_table.specs.declared.rows.LeaseRow.{LeaseRow}
 use Rattle.serial_table.specs.declared.rows.Breaking.{Breaking}
 use Rattle.serial_table.specs.declared.rows.Watch.{Watch}
 use Rattle.serial_table.specs.declared.table.Table.{Table}
-use Rattle.serial_table.specs.declared.change.Change.{Change}
 use Rattle.serial_table.specs.declared.decision.Caller.{Caller}
 use Rattle.serial_table.specs.declared.decision.Decision.{Decision}
 use Rattle.serial_table.specs.Ack.{acknowledged, accept, ack_lease, ack_first, ack}
 use Rattle.serial_table.specs.Asked.{own_lease}
 use Rattle.serial_table.specs.Break.{Breaks, break_lease}
-use Rattle.serial_table.specs.View.{View, view, lives, carries, has_name, is_of_file}
-use Rattle.serial_table.specs.File.{FileView, FileOpen, file_view, file_open}
+use Rattle.serial_table.specs.View.{view, lives, carries, has_name, is_of_file}
+use Rattle.serial_table.specs.File.{FileOpen, file_view, file_open}
 use Rattle.serial_table.specs.Settle.{settle}
 use Rattle.serial_table.specs.Change.{perform_all}
-use Rattle.serial_table.specs.Decide.{decide}
 use Rattle.serial_table.specs.Decision.{only_reply, spots_of}
 use Rattle.serial_table.specs.Expire.{look, due, is_due, expires, expired_by}
 use Rattle.serial_table.specs.History.{after, IsLegal}
 use Rattle.serial_table.specs.Sound.{has_open, is_open_under}
-use Rattle.serial_table.specs.Step.{declared_at}
 use Rattle.serial_table.proofs.SameIds.{same_name-eq}
-use Rattle.serial_table.proofs.BreaksLeave.{ComesFrom, from_breaks}
+use Rattle.serial_table.proofs.BreaksLeave.{from_breaks}
 use Rattle.serial_table.proofs.Expiring.{settles_all}
 use Rattle.serial_table.proofs.Members.{IsIn, each, all_each, any_of, one_of, in_filter, in_flat_map, in_map, passes_in}
 use Rattle.serial_table.proofs.Shown.{is_of_break}
 use Rattle.chain_map.specs.declared.db.Db.TheVariants as db
-use Rattle.chain_map.specs.Hash.{db_number, key_hash}
-use Rattle.chain_map.specs.Pairs.{Pairs, byte_order, find}
 use Rattle.record_codec.specs.declared.share_rec.ShareEntry.{ShareEntry}
-use Rattle.record_codec.specs.declared.share_rec.ShareRec.{ShareRec}
 use Rattle.record_codec.specs.ShareRec.{share_rec}
 use Rattle.stored_table.specs.Keys.{pid_key, name_key, file_key}
-use Rattle.stored_table.specs.Places.{Chains, Place, place, among, chain_of, chain_at, value_at}
-use Rattle.stored_table.specs.Decoded.{AllRecords, decoded, records_of}
+use Rattle.stored_table.specs.Places.{Chains, Place, among}
+use Rattle.stored_table.specs.Decoded.{AllRecords, records_of}
 use Rattle.record_rows.specs.Rows.{entry_of}
-use Rattle.stored_table.specs.Met.{KeyList, count_from, chains_in, keys_at, all_keys, record_at, files_with, met_by_call, met_by_name, all_met, nothing_met}
+use Rattle.stored_table.specs.Met.{KeyList, all_keys, record_at, files_with, met_by_call, met_by_name, all_met, nothing_met}
 use Rattle.stored_table.specs.Met as stored
 use Rattle.stored_table.specs.Stands.{StandsFor}
-use Rattle.stored_table.proofs.Writing.{place_is}
 use Rattle.table_laws.specs.Standing.{KeepsStanding}
 use Rattle.table_laws.proofs.Contained.{share_place, ranges_place, mail_place, IsMetName}
 use Rattle.table_laws.proofs.Exactly.{in_opens, single}
-use Rattle.table_laws.proofs.Meets.{flat_mapped_in, entry_recorded, files_written, leases_met, owner_mail, open_watcher_met, range_watcher_met}
+use Rattle.table_laws.proofs.Meets.{entry_recorded, files_written, leases_met, owner_mail, open_watcher_met, range_watcher_met}
+use Rattle.table_laws.proofs.KeysThere.{recorded_key}
 use Rattle.table_laws.proofs.Deciding.{IsContained, reply_contained}
 use Rattle.table_laws.proofs.Chains.{IsFine, adds_no_open}
 use Rattle.table_laws.proofs.Calls.{call_contained, call_opens, open_behind}
 use Rattle.table_laws.proofs.Breaking.{AreBreaks, OwnersHave, lease_breaks, breaks_touch, breaks_reach, breaks_wait, breaks_open}
 use Rattle.table_laws.proofs.HandleEvents.{entry, keeps_standing}
-
--- ---- keys of a database
-
-counted_at : (low n i : ℕ) → i < n → IsIn (low + i) (count_from low n)
-counted_at low zero i h = absurd (omega (arith, h))
-counted_at low (suc n) zero h = inl (omega arith)
-counted_at low (suc n) (suc i) h =
-    let same : suc low + i ≡ low + suc i = omega arith in
-    inr (subst (λ x. IsIn x (count_from (suc low) n)) same (counted_at (suc low) n i (omega (arith, h))))
-
-some_key : (n : ℕ) (k : Chains) (key : List ℕ) → is_some (value_at n k (place db.Locking key)) ≡ true → IsIn key (keys_at k (chain_of n (place db.Locking key)))
-some_key n k key e =
-    let x = one_of (eq_by_cmp byte_order key) (keys_at k (chain_of n (place db.Locking key))) (sym (is_some-find byte_order key (chain_at k (chain_of n (place db.Locking key)))) ∙ e) in
-    subst (λ y. IsIn y (keys_at k (chain_of n (place db.Locking key)))) (ap (λ (p : Place). p.key) (sym (place_is (place db.Locking key) (place db.Locking x.0) x.2))) x.1
-
-key_there : (n : ℕ) (k : Chains) (key : List ℕ) → 1 ≤ n → is_some (value_at n k (place db.Locking key)) ≡ true → IsIn key (all_keys n k db.Locking)
-key_there n k key some e =
-    let low : key_hash key % n < n = mod-lt (key_hash key) (omega (arith, some)) in
-    flat_mapped_in (keys_at k) (chains_in n db.Locking) (chain_of n (place db.Locking key)) key
-    (counted_at ((db_number db.Locking - 1) * n) n (key_hash key % n) low) (some_key n k key e)
-
--- a record is there
-some_value : (n : ℕ) (k : Chains) (o : Option (List ℕ)) (r : ShareRec) → decoded share_rec o ≡ Some r → is_some o ≡ true
-some_value n k None r e = absurd cc
-some_value n k (Some bytes) r e = refl
 
 -- ---- the file of the lease
 
@@ -144,7 +108,7 @@ module _ (setup : Setup) (n : ℕ) (k : Chains) (t : Table) (stands : StandsFor 
       let o = open_of l.0 l.1 in
       let r = entry_recorded setup n k t stands.agree fine.sound fine.sets file o.0 (subst (λ g. IsIn o.0 ((view t).opens_of g)) same o.1) in
       passes_in (λ key. stored.has_name declared_name (record_at share_rec n k db.Locking key)) (all_keys n k db.Locking) (file_key setup file)
-      (key_there n k (file_key setup file) stands.well_formed.chains.some (some_value n k (value_at n k (place db.Locking (file_key setup file))) r.0 r.1))
+      (recorded_key n k db.Locking (file_key setup file) share_rec r.0 stands.well_formed.chains.some r.1)
       (ap (stored.has_name declared_name) r.1
       ∙ any_of (λ (x : ShareEntry). carries declared_name x.lease) r.0.entries (entry_of o.0) r.2 (ap (λ m. carries m o.0.lease) (sym name_is) ∙ o.2))
 

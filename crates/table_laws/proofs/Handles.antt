@@ -1,5 +1,5 @@
 -- What is needed of a lease record in well-formed chains has HANDLE only where what is held has it.
-use Rattle.std.proofs.Common.{◌≡◌, ℕ, ◌≤◌, Bool, true, false, not, ◌==◌, ◌&&◌, ◌||◌, List, [], ◌∷◌, Option, Some, None, refl, sym, ap, ◌∙◌, subst, arith}
+use Rattle.std.proofs.Common.{◌≡◌, ℕ, ◌≤◌, Bool, true, false, not, ◌==◌, ◌&&◌, ◌||◌, List, [], ◌∷◌, Option, Some, None, refl, sym, ap, subst, arith}
 use Rattle.std.specs.Prelude.{IfSome, nat_le}
 use Rattle.std.specs.List.{list_all}
 use Rattle.std.proofs.lemmas.Bool.{and_parts, and_from, eqb-true, leb-true}
@@ -16,7 +16,7 @@ use Rattle.record_codec.proofs.Whole.{all_again}
 use Rattle.stored_table.specs.Keys.{name_key}
 use Rattle.stored_table.specs.Places.{Chains, place, value_at}
 use Rattle.stored_table.specs.Decoded.{value_of, decoded, records_of}
-use Rattle.stored_table.specs.Stands.{HasValue, IsWellFormed}
+use Rattle.stored_table.specs.Stands.{IsWellFormed}
 use Rattle.stored_table.proofs.Forming.{IsValue}
 use Rattle.stored_table.proofs.Keeping.{old_value}
 use Rattle.table_laws.proofs.Settling.{KeepsHandle}
@@ -28,12 +28,12 @@ states = 0 ∷ 1 ∷ 3 ∷ 5 ∷ 7 ∷ []
 each_state : (p : ℕ → Bool) → list_all p states ≡ true → (n : ℕ) → is_state n ≡ true → p n ≡ true
 each_state p all n e = let s = one_of (λ state. state == n) states e in subst (λ m. p m ≡ true) (eqb-true s.0 n s.2) (each p states all s.0 s.1)
 
-each_three : (p : ℕ → ℕ → ℕ → Bool) → list_all (λ a. list_all (λ b. list_all (p a b) states) states) states ≡ true
+pub each_three : (p : ℕ → ℕ → ℕ → Bool) → list_all (λ a. list_all (λ b. list_all (p a b) states) states) states ≡ true
     → (a b c : ℕ) → is_state a ≡ true → is_state b ≡ true → is_state c ≡ true → p a b c ≡ true
 each_three p all a b c ea eb ec =
     each_state (p a b) (each_state (λ b. list_all (p a b) states) (each_state (λ a. list_all (λ b. list_all (p a b) states) states) all a ea) b eb) c ec
 
-if_so : (a b : Bool) → (not a || b) ≡ true → a ≡ true → b ≡ true
+pub if_so : (a b : Bool) → (not a || b) ≡ true → a ≡ true → b ≡ true
 if_so true b e h = e
 if_so false b e h = absurd cc
 

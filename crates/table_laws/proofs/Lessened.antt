@@ -1,9 +1,9 @@
 -- What an entry does beside the places that it writes, where fewer may live afterwards: opens and holds of those who live no longer go,
 -- with what depends on them, and nothing else that a record elsewhere tells.
-use Rattle.std.proofs.Common.{◌≡◌, ℕ, Bool, true, false, cond, ◌==◌, ◌&&◌, List, [], ◌∷◌, map, filter, find, Option, Some, None, refl, sym, ap, ◌∙◌, subst, inl, inr}
+use Rattle.std.proofs.Common.{◌≡◌, ℕ, Bool, true, false, ◌==◌, ◌&&◌, List, [], ◌∷◌, map, filter, find, Option, Some, None, refl, sym, ap, ◌∙◌, subst, inl, ◌⊎◌}
 use Rattle.std.specs.List.{list_any}
 use Rattle.std.specs.Option.{option_map_or, option_and_then}
-use Rattle.std.proofs.lemmas.Bool.{and_parts, and_from, both_ways, eqb-true, eq-eqb, false_from_ne_true}
+use Rattle.std.proofs.lemmas.Bool.{and_parts, both_ways, eqb-true, eq-eqb, false_from_ne_true}
 use Rattle.sid_core.specs.declared.ids.Sid.{Sid}
 use Rattle.sid_core.specs.declared.ids.LeaseName.{LeaseName}
 use Rattle.sid_core.specs.declared.setup.Setup.{Setup}
@@ -12,7 +12,6 @@ use Rattle.sid_core.specs.Values.{has}
 use Rattle.serial_table.specs.declared.rows.OpenRow.{OpenRow}
 use Rattle.serial_table.specs.declared.rows.LeaseRow.{LeaseRow}
 use Rattle.serial_table.specs.declared.rows.HoldRow.{HoldRow}
-use Rattle.serial_table.specs.declared.rows.RangeRow.{RangeRow}
 use Rattle.serial_table.specs.declared.rows.WorkerRow.{WorkerRow}
 use Rattle.serial_table.specs.declared.table.Table.{Table}
 use Rattle.serial_table.specs.View as table
@@ -24,7 +23,8 @@ use Rattle.record_codec.specs.Counts.{Records, lives, settled_lease}
 use Rattle.stored_table.specs.Places.{Place, among}
 use Rattle.stored_table.specs.Decoded.{AllRecords}
 use Rattle.record_rows.specs.Rows.{ref_of}
-use Rattle.stored_table.specs.Exact.{lease_record, opens_under, lease_of, exact_lease}
+use Rattle.stored_table.specs.Exact.{lease_record, lease_of, exact_lease}
+use Rattle.table_laws.specs.Standing.{IsUnnamed}
 use Rattle.table_laws.proofs.Lists.{filter_every}
 use Rattle.table_laws.proofs.Contained.{share_place, ranges_place, lock_place, lease_place, register_place, mail_place, SameFile, WaitsStep, IsMetName, Contained}
 use Rattle.table_laws.proofs.Exactly.{single, exact_settled, in_opens}
@@ -42,8 +42,8 @@ pub record Lessened (setup : Setup) (ps : List Place) (s : AllRecords) (t u : Ta
   -- the files whose records are written
   pub here : ℕ → Bool
   pub written : (file : ℕ) → here file ≡ true → (among (share_place setup file) ps ≡ true) × (among (ranges_place setup file) ps ≡ true)
-  -- nobody comes to live
-  pub living : (sid : Sid) → table.lives (view u) sid ≡ true → table.lives (view t) sid ≡ true
+  -- nobody comes to live whom a record names
+  pub living : (sid : Sid) → table.lives (view u) sid ≡ true → (table.lives (view t) sid ≡ true) ⊎ IsUnnamed s sid
   pub worker_mail : (pid : ℕ) → among (mail_place pid) ps ≡ false → (view u).worker_of pid ≡ (view t).worker_of pid
   pub worker_register : (pid : ℕ) → among (register_place pid) ps ≡ false → ((view u).worker_of pid ≡ (view t).worker_of pid) × ((view u).ended_of pid ≡ (view t).ended_of pid)
   pub others : (file : ℕ) → here file ≡ false → LessFile file (view t) (view u)
@@ -62,6 +62,14 @@ same_leases : (xs ys : List LeaseRow) → ((l : LeaseRow) → IsIn l xs → xs �
 same_leases [] [] a b f g = refl
 same_leases (x ∷ xs) ys a b f g = a x (inl refl) ∙ sym (b x (f x (inl refl)))
 same_leases [] (y ∷ ys) a b f g = absurd (g y (inl refl))
+
+-- a file that is to go has an open
+pub same_pending : (u : Table) → IsSound u → (file : ℕ) (b : Bool) → (view u).is_pending file ≡ b → b ≡ (b && list_any (λ o. true) ((view u).opens_of file))
+same_pending u sound file false e = refl
+same_pending u sound file true e =
+    let p = one_of (names_file file) u.pending e in
+    let o = one_of (is_of_file p.0) u.opens (each (is_opened u.opens) u.pending sound.pending_have_opens p.0 p.1) in
+    sym (any_of (λ o. true) ((view u).opens_of file) o.0 (subst (λ g. IsIn o.0 ((view u).opens_of g)) (eqb-true o.0.file p.0 o.2 ∙ eqb-true p.0 file p.2) (in_opens u sound o.0 o.1)) refl)
 
 module _ (setup : Setup) (ps : List Place) (s : AllRecords) (t u : Table) (sound : IsSound t) (sound_after : IsSound u) (c : Contained setup ps s t u) where
   abbrev v : View
@@ -111,20 +119,13 @@ module _ (setup : Setup) (ps : List Place) (s : AllRecords) (t u : Table) (sound
       let p = and_parts (o.0.file == r.file) (same_id o.0.id r.id) o.2 in
       any_of (λ x. same_id x.id r.id) (w.opens_of file) o.0 (subst (λ g. IsIn o.0 (w.opens_of g)) (eqb-true o.0.file r.file p.0 ∙ eqb-true r.file file k.1) (in_opens u sound_after o.0 o.1)) p.1)
 
-  same_pending : (file : ℕ) (b : Bool) → w.is_pending file ≡ b → b ≡ (b && list_any (λ o. true) (w.opens_of file))
-  same_pending file false e = refl
-  same_pending file true e =
-      let p = one_of (names_file file) u.pending e in
-      let o = one_of (is_of_file p.0) u.opens (each (is_opened u.opens) u.pending sound_after.pending_have_opens p.0 p.1) in
-      sym (any_of (λ o. true) (w.opens_of file) o.0 (subst (λ g. IsIn o.0 (w.opens_of g)) (eqb-true o.0.file p.0 o.2 ∙ eqb-true p.0 file p.2) (in_opens u sound_after o.0 o.1)) refl)
-
   other_file : (file : ℕ) → SameFile file v w → LessFile file v w
   other_file file same = record {
     stays = λ o. true;
     opens = same.opens ∙ sym (filter_every (λ o. true) (v.opens_of file) (λ o i. refl));
     gone = λ o i e. absurd cc;
     ranges = sym (ap (filter (λ r. list_any (λ o. same_id o.id r.id) (w.opens_of file))) (sym same.ranges) ∙ same_ranges file);
-    pending = same_pending file (w.is_pending file) refl ∙ ap (λ b. b && list_any (λ o. true) (w.opens_of file)) same.pending;
+    pending = same_pending u sound_after file (w.is_pending file) refl ∙ ap (λ b. b && list_any (λ o. true) (w.opens_of file)) same.pending;
   }
 
   all_living : (xs : List HoldRow) → ((h : HoldRow) → IsIn h xs → table.lives w h.owner ≡ true) → filter (λ h. table.lives w h.owner) xs ≡ xs
@@ -134,7 +135,7 @@ module _ (setup : Setup) (ps : List Place) (s : AllRecords) (t u : Table) (sound
   lessened = record {
     here = c.here;
     written = c.written;
-    living = λ sid e. sym (living_stays sid) ∙ e;
+    living = λ sid e. inl (sym (living_stays sid) ∙ e);
     worker_mail = λ pid unmet. worker_stays pid;
     worker_register = λ pid unmet. (worker_stays pid, ap (filter (is_end_of pid)) c.ended);
     others = λ file out. other_file file (c.others file out);

@@ -1,8 +1,8 @@
 -- What an entry writes stands for the table after it, where it does nothing beside the places that it writes.
-use Rattle.std.proofs.Common.{◌≡◌, ℕ, Bool, true, false, cond, not, ◌==◌, ◌&&◌, ◌||◌, List, [], ◌∷◌, ◌++◌, map, filter, find, Option, Some, None, refl, sym, ap, ap₂, ◌∙◌, subst, inl, inr, ◌⊎◌}
+use Rattle.std.proofs.Common.{◌≡◌, ℕ, Bool, true, false, cond, not, ◌==◌, ◌&&◌, List, [], ◌∷◌, map, filter, Option, Some, None, refl, sym, ap, ◌∙◌, subst, inl, inr, ◌⊎◌}
 use Rattle.std.specs.Prelude.{IfSome}
 use Rattle.std.specs.List.{list_any, AllByRecursion}
-use Rattle.std.specs.Option.{option_map, option_map_or, option_and_then}
+use Rattle.std.specs.Option.{option_map, option_and_then}
 use Rattle.std.proofs.lemmas.Bool.{and_parts, and_from, or_left, or_right, or_cases, both_ways, eqb-true, eq-eqb, false_from_ne_true}
 use Rattle.std.proofs.Math.Bool.{and-false}
 use Rattle.sid_core.specs.declared.ids.Sid.{Sid}
@@ -10,16 +10,13 @@ use Rattle.sid_core.specs.declared.ids.OpenId.{OpenId}
 use Rattle.sid_core.specs.declared.ids.LeaseName.{LeaseName}
 use Rattle.sid_core.specs.declared.ids.Spot.{Spot}
 use Rattle.sid_core.specs.declared.ids.Spot.TheVariants.{OpenOf, RangesOf, LockOf}
-use Rattle.sid_core.specs.Ids.{same_id}
+use Rattle.sid_core.specs.Ids.{same_id, same_sid}
 use Rattle.sid_core.specs.Values.{has}
 use Rattle.sid_core.specs.declared.bits.LeaseState.{LeaseState}
 use Rattle.sid_core.specs.declared.setup.FileInfo.{FileInfo}
 use Rattle.sid_core.specs.declared.setup.Setup.{Setup}
 use Rattle.serial_table.specs.declared.rows.OpenRow.{OpenRow}
 use Rattle.serial_table.specs.declared.rows.LeaseRow.{LeaseRow}
-use Rattle.serial_table.specs.declared.rows.RangeRow.{RangeRow}
-use Rattle.serial_table.specs.declared.rows.HoldRow.{HoldRow}
-use Rattle.serial_table.specs.declared.rows.Watch.{Watch}
 use Rattle.serial_table.specs.declared.rows.WorkerRow.{WorkerRow}
 use Rattle.serial_table.specs.declared.table.Table.{Table}
 use Rattle.serial_table.specs.ByNumber.{declared_at}
@@ -28,36 +25,36 @@ use Rattle.serial_table.specs.View.{View, view, is_of_file, is_range_of, is_hold
 use Rattle.serial_table.specs.Sound.{IsSound, have_same_id, has_its_open, is_opened}
 use Rattle.serial_table.specs.InSets.{IsInSets}
 use Rattle.serial_table.proofs.Filters.{any_filtered}
-use Rattle.serial_table.proofs.SameIds.{eqb-flip, same_id-refl, same_name-refl}
+use Rattle.serial_table.proofs.SameIds.{eqb-flip, same_id-refl, same_name-refl, same_sid-refl}
 use Rattle.serial_table.proofs.Members.{IsIn, each, all_of, all_by, any_of, one_of, in_filter, passes_in, mapped_in, in_map, found_in, one_in}
-use Rattle.chain_map.specs.declared.db.Db.TheVariants as db
 use Rattle.record_codec.specs.declared.watch.WatchRec.{WatchRec}
 use Rattle.record_codec.specs.declared.glock_rec.Hold.{Hold}
 use Rattle.record_codec.specs.declared.glock_rec.GLockRec.{GLockRec}
 use Rattle.record_codec.specs.declared.share_rec.ShareRec.{ShareRec}
 use Rattle.record_codec.specs.declared.share_rec.ShareEntry.{ShareEntry}
+use Rattle.record_codec.specs.declared.lease_rec.LeaseRef.{LeaseRef}
 use Rattle.record_codec.specs.declared.lease_rec.LeaseRec.{LeaseRec}
 use Rattle.record_codec.specs.declared.register_rec.RegisterRec.{RegisterRec}
 use Rattle.record_codec.specs.declared.range_rec.RangeRec.{RangeRec}
 use Rattle.record_codec.specs.declared.range_rec.RangeItem.{RangeItem}
-use Rattle.record_codec.specs.declared.mail_rec.MailRec.{MailRec}
 use Rattle.record_codec.specs.Counts.{Records, is_current, lives, hold_counts, has_token, has_token_at, watch_counts, register_watch_counts, ref_counts, settled_state, settled_lease, keeps, is_kept, entry_counts, pending_counts, entry_of_id_counts, id_counts, range_counts}
-use Rattle.stored_table.specs.Places.{Place, place, among}
+use Rattle.stored_table.specs.Places.{Place, among}
 use Rattle.stored_table.specs.Decoded.{AllRecords, deciding}
 use Rattle.record_rows.specs.Rows.{entry_of, ref_of, item_of, hold_of, watch_of, token_of}
-use Rattle.stored_table.specs.Exact.{is_empty, unless_both_empty, share_of, ranges_of, exact_share, exact_ranges, exact_lock, lease_with, opens_under, exact_lease, register_record, exact_register, mail_record, mail_of_session, mail_if_alive, exact_mail}
-use Rattle.stored_table.specs.Shown.{part_of, valid_entries}
+use Rattle.stored_table.specs.Exact.{is_empty, unless_both_empty, share_of, ranges_of, exact_share, exact_ranges, exact_lock, lease_with, opens_under, exact_lease, register_record, exact_register, mail_record, mail_if_alive, exact_mail}
+use Rattle.stored_table.specs.Shown.{part_of}
 use Rattle.stored_table.specs.Move.{AddedOpen}
 use Rattle.stored_table.specs.Moved.{moved}
 use Rattle.stored_table.specs.Stands.{AgreeWith, HasOpenRecords, clean_share, clean_ranges, clean_lock, clean_register}
 use Rattle.stored_table.proofs.Telling.{none_in, entries_exact, no_opens, no_ranges, entries_are, current_clean, current_exact, lives_alike}
+use Rattle.table_laws.specs.Standing.{IsUnnamed}
 use Rattle.table_laws.proofs.Lists.{filter_each, filter_every, filter_twice, filter_mapped, any_in_filter, any_mapped, any_alike}
-use Rattle.table_laws.proofs.Contained.{share_place, ranges_place, lock_place, lease_place, register_place, mail_place, spot_place, register_watchers}
+use Rattle.table_laws.proofs.Contained.{share_place, ranges_place, lock_place, lease_place, register_place, mail_place, spot_place}
 use Rattle.table_laws.proofs.Lessened.{KeepsHandle, LessFile, Lessened}
 use Rattle.table_laws.proofs.Tokens.{counts_at, counts_anywhere}
 use Rattle.table_laws.proofs.Watching.{tokens_stay, waits_there, watches_stay, behind_stay, waits_anywhere, own_tokens, own_tokens_behind}
-use Rattle.table_laws.proofs.Settling.{is_left, some_left_by, settled_again, keeps_less}
-use Rattle.table_laws.proofs.Exactly.{refs_back, in_opens, of_file, IsUnder, in_refs, exact_is, lease_row_of, kept_by_lease, entry_exact, exact_settled, IsKeptBy, kept_by}
+use Rattle.table_laws.proofs.Settling.{AreOwnersLess, is_left, some_left_by, settled_again, keeps_less}
+use Rattle.table_laws.proofs.Exactly.{refs_back, in_opens, of_file, IsUnder, in_refs, exact_is, lease_row_of, kept_by_lease, entry_exact, exact_settled, kept_by}
 
 -- ---- what is written, or else as before
 
@@ -105,8 +102,8 @@ both_test true c h = sym (ap (λ x. x && true) (h refl))
 both_test false c h = sym (and-false c)
 
 -- a test that asks more, before or after the other
-thins : {X : Type 0} (p q : X → Bool) → ((x : X) → p x ≡ true → q x ≡ true) → (xs : List X) → filter p xs ≡ filter p (filter q xs)
-thins p q h xs = filter_each p (λ x. q x && p x) xs (λ x i. both_test (p x) (q x) (h x)) ∙ sym (filter_twice q p xs)
+thins : {X : Type 0} (p q : X → Bool) (xs : List X) → ((x : X) → IsIn x xs → p x ≡ true → q x ≡ true) → filter p xs ≡ filter p (filter q xs)
+thins p q xs h = filter_each p (λ x. q x && p x) xs (λ x i. both_test (p x) (q x) (h x i)) ∙ sym (filter_twice q p xs)
 
 module _ (setup : Setup) (ps : List Place) (added : Option AddedOpen) (s : AllRecords) (t u : Table) (agree : AgreeWith setup s (view t))
     (sound : IsSound t) (sets : IsInSets setup t) (sound_after : IsSound u) (sets_after : IsInSets setup u)
@@ -245,21 +242,41 @@ module _ (setup : Setup) (ps : List Place) (added : Option AddedOpen) (s : AllRe
       ∙ ap (λ (o : Option RegisterRec). is_current o sid.session) (register_is sid.pid)
       ∙ current_exact w sid.session (w.worker_of sid.pid)
 
-  -- who lives afterwards lived before
-  living_less : (sid : Sid) → lives new sid ≡ true → lives old sid ≡ true
-  living_less sid e = lives_alike setup s t agree sets sound sid ∙ c.living sid (sym (living_is sid) ∙ e)
+  -- who lives afterwards lived before, or no record names it
+  living_less : (sid : Sid) → lives new sid ≡ true → (lives old sid ≡ true) ⊎ IsUnnamed s sid
+  living_less sid e = by (c.living sid (sym (living_is sid) ∙ e))
+    where
+      by : (table.lives v sid ≡ true) ⊎ IsUnnamed s sid → (lives old sid ≡ true) ⊎ IsUnnamed s sid
+      by (inl e) = inl (lives_alike setup s t agree sets sound sid ∙ e)
+      by (inr h) = inr h
+
+  -- of a part that a record has
+  living_if : {X : Type 0} (owner : X → Sid) (parts : List X) → ((sid : Sid) → IsUnnamed s sid → AllByRecursion (λ x. same_sid sid (owner x) ≡ false) parts) → (x : X) → IsIn x parts
+      → lives new (owner x) ≡ true → lives old (owner x) ≡ true
+  living_if owner parts none x i e = by (living_less (owner x) e)
+    where
+      by : (lives old (owner x) ≡ true) ⊎ IsUnnamed s (owner x) → lives old (owner x) ≡ true
+      by (inl e) = e
+      by (inr h) = absurd (both_ways (same_sid (owner x) (owner x)) (all_of (λ y. same_sid (owner x) (owner y) ≡ false) parts (none (owner x) h) x i) (same_sid-refl (owner x)))
+
+  owners_less : (name : LeaseName) (r : LeaseRec) → s.leases name ≡ Some r → AreOwnersLess new old r.refs
+  owners_less name r is = living_if (λ (ref : LeaseRef). ref.owner) r.refs (λ sid h. subst (λ o. AllByRecursion (λ (ref : LeaseRef). same_sid sid ref.owner ≡ false) (part_of (λ (x : LeaseRec). x.refs) o)) is (h.refs name))
+
+  all_owners_less : (name : LeaseName) (o : Option LeaseRec) → s.leases name ≡ o → IfSome o (λ r. AreOwnersLess new old r.refs)
+  all_owners_less name None is = tt
+  all_owners_less name (Some r) is = owners_less name r is
 
   -- ---- leases
 
-  settled_twice : (o : Option LeaseRec) → IfSome o KeepsHandle → option_and_then (settled_lease new) o ≡ option_and_then (settled_lease new) (option_and_then (settled_lease old) o)
-  settled_twice None h = refl
-  settled_twice (Some r) h = settled_again new old living_less r h
+  settled_twice : (o : Option LeaseRec) → IfSome o (λ r. AreOwnersLess new old r.refs) → IfSome o KeepsHandle → option_and_then (settled_lease new) o ≡ option_and_then (settled_lease new) (option_and_then (settled_lease old) o)
+  settled_twice None less h = refl
+  settled_twice (Some r) less h = settled_again new old r less h
 
   lease_is : (name : LeaseName) → option_and_then (settled_lease new) (after.leases name) ≡ exact_lease w name
   lease_is name =
       either_of (option_and_then (settled_lease new)) (among (lease_place name) ps) (exact_lease w name) (s.leases name) (exact_lease w name)
       (exact_settled u sound_after new living_is name)
-      (λ unmet. settled_twice (s.leases name) (broken name) ∙ ap (option_and_then (settled_lease new)) (agree.leases name) ∙ c.leases name unmet new living_is)
+      (λ unmet. settled_twice (s.leases name) (all_owners_less name (s.leases name) refl) (broken name) ∙ ap (option_and_then (settled_lease new)) (agree.leases name) ∙ c.leases name unmet new living_is)
 
   -- ---- entries of records that aren't written
 
@@ -272,7 +289,7 @@ module _ (setup : Setup) (ps : List Place) (added : Option AddedOpen) (s : AllRe
     there_before o i = in_filter less.stays (v.opens_of file) o (subst (IsIn o) less.opens i)
 
     kept_before : (name : LeaseName) (id : OpenId) (b : Bool) → among (lease_place name) ps ≡ b → keeps new file id (cond b (exact_lease w name) (s.leases name)) ≡ true → keeps old file id (s.leases name) ≡ true
-    kept_before name id false unmet e = keeps_less new old living_less file id (s.leases name) (broken name) e
+    kept_before name id false unmet e = keeps_less new old file id (s.leases name) (all_owners_less name (s.leases name) refl) (broken name) e
     kept_before name id true met e =
         let k = kept_by u sound_after new living_is name file id e in
         let here : IsIn k.row (leases_at w name file) = passes_in (λ (x : LeaseRow). x.file == file) (w.leases_of name) k.row k.under.lease (eq-eqb k.row.file file k.file) in
@@ -288,11 +305,11 @@ module _ (setup : Setup) (ps : List Place) (added : Option AddedOpen) (s : AllRe
     kept_of_entry id None e = e
     kept_of_entry id (Some name) e = kept_before name id (among (lease_place name) ps) refl e
 
-    counted_before : (e : ShareEntry) → entry_counts new file e ≡ true → entry_counts old file e ≡ true
-    counted_before e h = by_case (or_cases (lives new e.owner) (not (e.durable == 0) && is_kept new file e.id e.lease) h)
+    counted_before : (r : ShareRec) → s.shares file ≡ Some r → (e : ShareEntry) → IsIn e r.entries → entry_counts new file e ≡ true → entry_counts old file e ≡ true
+    counted_before r is e i h = by_case (or_cases (lives new e.owner) (not (e.durable == 0) && is_kept new file e.id e.lease) h)
       where
         by_case : (lives new e.owner ≡ true) ⊎ ((not (e.durable == 0) && is_kept new file e.id e.lease) ≡ true) → entry_counts old file e ≡ true
-        by_case (inl l) = or_left (lives old e.owner) _ (living_less e.owner l)
+        by_case (inl l) = or_left (lives old e.owner) _ (living_if (λ (x : ShareEntry). x.owner) r.entries (λ sid h. subst (λ o. AllByRecursion (λ (x : ShareEntry). same_sid sid x.owner ≡ false) (part_of (λ (x : ShareRec). x.entries) o)) is (h.entries file)) e i l)
         by_case (inr k) =
             let p = and_parts (not (e.durable == 0)) (is_kept new file e.id e.lease) k in
             or_right (lives old e.owner) _ (and_from (not (e.durable == 0)) (is_kept old file e.id e.lease) p.0 (kept_of_entry e.id e.lease p.1))
@@ -364,8 +381,8 @@ module _ (setup : Setup) (ps : List Place) (added : Option AddedOpen) (s : AllRe
                 both_ways (less.stays o) st (gone_by o o.lease refl i p.0 p.1)
 
     -- those that counted thinned out
-    entries_thin : (r : ShareRec) → filter (entry_counts new file) r.entries ≡ filter (entry_counts new file) (filter (entry_counts old file) r.entries)
-    entries_thin r = thins (entry_counts new file) (entry_counts old file) counted_before r.entries
+    entries_thin : (r : ShareRec) → s.shares file ≡ Some r → filter (entry_counts new file) r.entries ≡ filter (entry_counts new file) (filter (entry_counts old file) r.entries)
+    entries_thin r is = thins (entry_counts new file) (entry_counts old file) r.entries (counted_before r is)
 
     exact_entries : filter (entry_counts new file) (map entry_of (v.opens_of file)) ≡ map entry_of (w.opens_of file)
     exact_entries =
@@ -396,10 +413,11 @@ module _ (setup : Setup) (ps : List Place) (added : Option AddedOpen) (s : AllRe
   pending_thin true false o h = sym (and-false o)
   pending_thin false q o h = refl
 
-  any_thin : (file : ℕ) → c.here file ≡ false → (es : List ShareEntry) → list_any (entry_counts new file) es ≡ list_any (entry_counts new file) (filter (entry_counts old file) es)
-  any_thin file out es =
+  any_thin : (file : ℕ) → c.here file ≡ false → (es : List ShareEntry) → ((e : ShareEntry) → IsIn e es → entry_counts new file e ≡ true → entry_counts old file e ≡ true)
+      → list_any (entry_counts new file) es ≡ list_any (entry_counts new file) (filter (entry_counts old file) es)
+  any_thin file out es before =
       any_alike (entry_counts new file) (λ e. entry_counts old file e && entry_counts new file e) es
-      (all_by _ es (λ e i. both_test (entry_counts new file e) (entry_counts old file e) (counted_before file out e)))
+      (all_by _ es (λ e i. both_test (entry_counts new file e) (entry_counts old file e) (before e i)))
       ∙ sym (any_in_filter (entry_counts new file) (entry_counts old file) es)
 
   share_unmet : (file : ℕ) → among (share_place setup file) ps ≡ false → (r : ShareRec) → s.shares file ≡ Some r → clean_share new file r ≡ option_and_then (thin_share file) (clean_share old file r)
@@ -407,12 +425,12 @@ module _ (setup : Setup) (ps : List Place) (added : Option AddedOpen) (s : AllRe
       let out = not_here file unmet in
       let cn = entry_counts new file in
       let co = entry_counts old file in
-      let entries = entries_thin file out r in
+      let entries = entries_thin file out r is in
       let watches = watches_thin (OpenOf file) unmet r.watchers in
       let pending : (r.pending && list_any cn r.entries) ≡ ((r.pending && list_any co r.entries) && list_any cn (filter co r.entries)) =
       pending_thin r.pending (list_any cn r.entries) (list_any co r.entries)
-      (λ e. let x = one_of cn r.entries e in any_of co r.entries x.0 x.1 (counted_before file out x.0 x.2))
-      ∙ ap (λ b. (r.pending && list_any co r.entries) && b) (any_thin file out r.entries) in
+      (λ e. let x = one_of cn r.entries e in any_of co r.entries x.0 x.1 (counted_before file out r is x.0 x.1 x.2))
+      ∙ ap (λ b. (r.pending && list_any co r.entries) && b) (any_thin file out r.entries (counted_before file out r is)) in
       (λ i. unless_both_empty (entries i) (watches i) (share_with r (pending i) (entries i) (watches i)))
       ∙ sym (thinned (share_with r (r.pending && list_any co r.entries)) (λ xs ys. share_with r ((r.pending && list_any co r.entries) && list_any cn xs) (filter cn xs) (filter still ys)) cn still (thin_share file) (λ xs ys. refl)
       (filter co r.entries) (filter (watch_counts old (OpenOf file)) r.watchers))
@@ -504,7 +522,7 @@ module _ (setup : Setup) (ps : List Place) (added : Option AddedOpen) (s : AllRe
   ranges_unmet : (file : ℕ) → among (ranges_place setup file) ps ≡ false → (r : RangeRec) → s.ranges file ≡ Some r → clean_ranges new file r ≡ option_and_then (thin_ranges file) (clean_ranges old file r)
   ranges_unmet file unmet r is =
       let out = not_here_ranges file unmet in
-      let ranges = thins (range_counts new file) (range_counts old file) (range_before file out) r.ranges in
+      let ranges = thins (range_counts new file) (range_counts old file) r.ranges (λ x i. range_before file out x) in
       let watches = watches_thin (RangesOf file) unmet r.watchers in
       (λ i. unless_both_empty (ranges i) (watches i) (ranges_with r (ranges i) (watches i)))
       ∙ sym (thinned (ranges_with r) (λ xs ys. ranges_with r (filter (range_counts new file) xs) (filter still ys)) (range_counts new file) still (thin_ranges file) (λ xs ys. refl)
@@ -559,7 +577,8 @@ module _ (setup : Setup) (ps : List Place) (added : Option AddedOpen) (s : AllRe
 
   lock_unmet : (key : ℕ) → among (lock_place key) ps ≡ false → (r : GLockRec) → s.locks key ≡ Some r → clean_lock new key r ≡ option_and_then thin_lock (clean_lock old key r)
   lock_unmet key unmet r is =
-      let holds = thins (hold_counts new) (hold_counts old) (λ h e. living_less h.sid e) r.holds in
+      let holds = thins (hold_counts new) (hold_counts old) r.holds
+      (living_if (λ (h : Hold). h.sid) r.holds (λ sid h. subst (λ o. AllByRecursion (λ (x : Hold). same_sid sid x.sid ≡ false) (part_of (λ (x : GLockRec). x.holds) o)) is (h.holds key))) in
       let watches = watches_thin (LockOf key) unmet r.watchers in
       (λ i. unless_both_empty (holds i) (watches i) (lock_with (holds i) (watches i)))
       ∙ sym (thinned lock_with (λ xs ys. lock_with (filter (hold_counts new) xs) (filter still ys)) (hold_counts new) still thin_lock (λ xs ys. refl) (filter (hold_counts old) r.holds) (filter (watch_counts old (LockOf key)) r.watchers))

@@ -1,14 +1,12 @@
 -- Changes that touch the rows of certain files alone, and waiters, letters and holds whose records are written, do nothing beside.
 use Rattle.std.proofs.Common.{◌≡◌, ℕ, Bool, true, false, cond, not, ◌==◌, ◌&&◌, ◌||◌, List, [], ◌∷◌, ◌++◌, map, filter, Option, Some, None, refl, sym, ap, ◌∙◌, subst, inl, inr, ◌⊎◌, eq-eqb}
 use Rattle.std.specs.Prelude.{IfSome}
-use Rattle.std.specs.List.{list_any, list_all, AllByRecursion}
+use Rattle.std.specs.List.{list_all, AllByRecursion}
 use Rattle.std.specs.Option.{option_map_or}
-use Rattle.std.proofs.lemmas.Bool.{and_parts, and_from, and_left, and_right, both_ways, eqb-true, cond-false, false_from_ne_true, not_from_false, cases_Bool}
+use Rattle.std.proofs.lemmas.Bool.{and_parts, and_left, both_ways, eqb-true, cond-false, false_from_ne_true, not_from_false}
 use Rattle.sid_core.specs.declared.ids.Sid.{Sid}
 use Rattle.sid_core.specs.declared.ids.LeaseName.{LeaseName}
-use Rattle.sid_core.specs.declared.call.Mode.{Mode}
 use Rattle.sid_core.specs.declared.setup.Setup.{Setup}
-use Rattle.sid_core.specs.declared.entry.Post.{Post}
 use Rattle.sid_core.specs.Ids.{same_sid}
 use Rattle.serial_table.specs.declared.rows.OpenRow.{OpenRow}
 use Rattle.serial_table.specs.declared.rows.HoldRow.{HoldRow}
@@ -16,22 +14,20 @@ use Rattle.serial_table.specs.declared.rows.WaiterRow.{WaiterRow}
 use Rattle.serial_table.specs.declared.table.Table.{Table}
 use Rattle.serial_table.specs.declared.change.Change.{Change}
 use Rattle.serial_table.specs.declared.change.Change.TheVariants as c
-use Rattle.serial_table.specs.View.{view, lives, is_of_file, is_hold_of, is_to, leases_at}
+use Rattle.serial_table.specs.View.{view, lives, is_of_file, is_hold_of, is_to}
 use Rattle.serial_table.specs.File.{file_view, file_open}
-use Rattle.serial_table.specs.Settle.{settle, settle_where, settle_file}
+use Rattle.serial_table.specs.Settle.{settle, settle_where}
 use Rattle.serial_table.specs.Change.{perform, perform_all, is_hold, set_hold, is_other_wait}
 use Rattle.serial_table.specs.Local.{is_in, perform_beside}
 use Rattle.serial_table.proofs.Names.{same_sid-eq}
-use Rattle.serial_table.proofs.SameIds.{same_sid-refl}
-use Rattle.serial_table.proofs.SameWorkers.{keeps_workers, workers-perform}
-use Rattle.serial_table.proofs.Members.{IsIn, in_filter, in_push, in_append, old_in}
+use Rattle.serial_table.proofs.Members.{IsIn, in_filter, in_push}
 use Rattle.serial_table.proofs.Filters.{filter_one_out, filter_dropped_out, map_left_alone}
 use Rattle.serial_table.proofs.Views.{view-perform}
 use Rattle.serial_table.proofs.Files.{file_view-perform}
 use Rattle.serial_table.proofs.Apart.{file_view-beside}
 use Rattle.serial_table.proofs.Settled.{IsSettled, files_settled}
 use Rattle.serial_table.proofs.OtherFiles.{leaves_others, leaves_settled}
-use Rattle.stored_table.specs.Places.{Place, place, among}
+use Rattle.stored_table.specs.Places.{Place, among}
 use Rattle.stored_table.specs.Decoded.{AllRecords}
 use Rattle.table_laws.proofs.Lists.{filter_every, filter_joined, filter_twice}
 use Rattle.table_laws.proofs.Contained.{share_place, ranges_place, lock_place, lease_place, register_place, mail_place, spot_place, SameFile, register_watchers, IsMetWaiter, WaitsStep, IsMetName, Contained}
@@ -320,7 +316,7 @@ module _ (setup : Setup) (ps : List Place) (s : AllRecords) where
       by None e = tt
       by (Some b) e = e
 
-  same_waits : (t u x : Table) → x.waiters ≡ u.waiters → WaitsStep setup ps s t u → WaitsStep setup ps s t x
+  pub same_waits : (t u x : Table) → x.waiters ≡ u.waiters → WaitsStep setup ps s t u → WaitsStep setup ps s t x
   same_waits t u x e w = record { stays = w.stays; new = w.new; rows = e ∙ w.rows; dropped = w.dropped; added = w.added }
 
   waiter_comes : (t u : Table) (x : WaiterRow) → IsMetWaiter setup ps s x → WaitsStep setup ps s t u → WaitsStep setup ps s t (perform (c.AddWaiter x) u)
@@ -383,7 +379,7 @@ module _ (setup : Setup) (ps : List Place) (s : AllRecords) where
 
   -- ---- all of it, change by change
 
-  abbrev Named : (ℕ → Bool) → Table → Type 0
+  abbrev pub Named : (ℕ → Bool) → Table → Type 0
   Named here t = (o : OpenRow) → IsIn o t.opens → here o.file ≡ true → IsMetName ps o.lease
 
   named_step : (here : ℕ → Bool) (change : Change) (t : Table) → touches here change ≡ true → reaches setup ps change ≡ true → Named here t → Named here (perform change t)
@@ -417,15 +413,15 @@ module _ (setup : Setup) (ps : List Place) (s : AllRecords) where
       by c.Settle h r (inr k) = absurd k
 
   -- what is kept along the changes: all but which files are written
-  record Along (here : ℕ → Bool) (t u : Table) : Type 0 where
-    others : (file : ℕ) → here file ≡ false → SameFile file (view t) (view u)
-    settled : (file : ℕ) → here file ≡ false → IsSettled u file
-    names : Named here u
-    workers : u.workers ≡ t.workers
-    ended : u.ended ≡ t.ended
-    holds : (key : ℕ) → among (lock_place key) ps ≡ false → (view u).holds_of key ≡ (view t).holds_of key
-    letters : (sid : Sid) → among (mail_place sid.pid) ps ≡ false → (view u).letters_of sid ≡ (view t).letters_of sid
-    waits : WaitsStep setup ps s t u
+  pub record Along (here : ℕ → Bool) (t u : Table) : Type 0 where
+    pub others : (file : ℕ) → here file ≡ false → SameFile file (view t) (view u)
+    pub settled : (file : ℕ) → here file ≡ false → IsSettled u file
+    pub names : Named here u
+    pub workers : u.workers ≡ t.workers
+    pub ended : u.ended ≡ t.ended
+    pub holds : (key : ℕ) → among (lock_place key) ps ≡ false → (view u).holds_of key ≡ (view t).holds_of key
+    pub letters : (sid : Sid) → among (mail_place sid.pid) ps ≡ false → (view u).letters_of sid ≡ (view t).letters_of sid
+    pub waits : WaitsStep setup ps s t u
 
   step : (here : ℕ → Bool) (t u : Table) (change : Change) → touches here change ≡ true → reaches setup ps change ≡ true → IsNewIn s change → Along here t u → Along here t (perform change u)
   step here t u change h r new a =
@@ -441,7 +437,7 @@ module _ (setup : Setup) (ps : List Place) (s : AllRecords) where
         waits = waits_step change t u here h r new a.waits;
       }
 
-  along : (here : ℕ → Bool) (t u : Table) (cs : List Change) → list_all (touches here) cs ≡ true → list_all (reaches setup ps) cs ≡ true → AllByRecursion (IsNewIn s) cs → Along here t u → Along here t (perform_all cs u)
+  pub along : (here : ℕ → Bool) (t u : Table) (cs : List Change) → list_all (touches here) cs ≡ true → list_all (reaches setup ps) cs ≡ true → AllByRecursion (IsNewIn s) cs → Along here t u → Along here t (perform_all cs u)
   along here t u [] h r new a = a
   along here t u (change ∷ cs) h r new a =
       let p = and_parts (touches here change) (list_all (touches here) cs) h in

@@ -1,10 +1,11 @@
 -- What it means that an entry keeps what the databases stand for.
-use Rattle.std.specs.Prelude.{◌≡◌, ℕ, ◌==◌, ◌&&◌, false, List, [], ◌∷◌, ◌++◌, Option, Some}
+use Rattle.std.specs.Prelude.{◌≡◌, ℕ, ◌+◌, ◌==◌, ◌&&◌, false, List, [], ◌∷◌, ◌++◌, Some}
 use Rattle.std.specs.List.{AllByRecursion}
 use Rattle.sid_core.specs.declared.call.Call.{Call}
 use Rattle.sid_core.specs.declared.entry.Entry.{Entry}
 use Rattle.sid_core.specs.declared.entry.Event.TheVariants.{Called}
 use Rattle.sid_core.specs.declared.ids.Moment.{Moment}
+use Rattle.sid_core.specs.declared.ids.LeaseName.{LeaseName}
 use Rattle.sid_core.specs.declared.ids.Sid.{Sid}
 use Rattle.sid_core.specs.Ids.{same_sid}
 use Rattle.serial_table.specs.declared.decision.Caller.{Caller}
@@ -14,7 +15,7 @@ use Rattle.sid_core.specs.Setup.{IsSetup}
 use Rattle.serial_table.specs.View.{view}
 use Rattle.serial_table.specs.History.{after, IsLegal}
 use Rattle.serial_table.specs.Step.{caller_of}
-use Rattle.stored_table.specs.Decoded.{records_of}
+use Rattle.stored_table.specs.Decoded.{AllRecords, records_of}
 use Rattle.stored_table.specs.Shown.{part_of}
 use Rattle.stored_table.specs.Places.{Chains}
 use Rattle.stored_table.specs.Move.{move}
@@ -33,6 +34,30 @@ LegalKeepsStanding setup n before e = IsSetup setup → IsLegal setup (before ++
 -- the entry of a call
 abbrev pub call_entry : ℕ → ℕ → ℕ → Moment → Call → Reply → Entry
 call_entry by seq number moment call reply = record { by = by; seq = seq; what = Called number moment call reply }
+
+-- ---- an entry after which a new session lives
+
+-- No record has a hold, an entry or a reference of the session.
+pub record IsUnnamed (s : AllRecords) (sid : Sid) : Type 0 where
+  pub holds : (key : ℕ) → AllByRecursion (λ h. same_sid sid h.sid ≡ false) (part_of (λ r. r.holds) (s.locks key))
+  pub entries : (file : ℕ) → AllByRecursion (λ e. same_sid sid e.owner ≡ false) (part_of (λ r. r.entries) (s.shares file))
+  pub refs : (name : LeaseName) → AllByRecursion (λ ref. same_sid sid ref.owner ≡ false) (part_of (λ r. r.refs) (s.leases name))
+
+-- the session that follows
+abbrev pub next_sid : Sid → Sid
+next_sid sid = record { pid = sid.pid; session = sid.session + 1 }
+
+-- Whatever chains stand for the table there, where no record names the session that follows that of its caller.
+abbrev pub KeepsStandingIfUnnamed : Setup → ℕ → List Entry → ℕ → ℕ → Moment → Entry → Type 0
+KeepsStandingIfUnnamed setup n before by number moment e =
+    (k : Chains) → StandsFor setup n k (view (after setup before))
+    → ((caller : Caller) → caller_of setup (view (after setup before)) by number moment ≡ Some caller → IsUnnamed (records_of setup n k) (next_sid caller.sid))
+    → StandsFor setup n (move setup n k e (view (after setup (before ++ e ∷ [])))) (view (after setup (before ++ e ∷ [])))
+
+abbrev pub LegalKeepsStandingIfUnnamed : Setup → ℕ → List Entry → ℕ → ℕ → ℕ → Moment → Call → Reply → Type 0
+LegalKeepsStandingIfUnnamed setup n before by seq number moment call reply =
+    IsSetup setup → IsLegal setup (before ++ call_entry by seq number moment call reply ∷ [])
+    → KeepsStandingIfUnnamed setup n before by number moment (call_entry by seq number moment call reply)
 
 -- ---- entries of calls that may wait
 

@@ -7,7 +7,7 @@ ghost use Rattle.sid_core.specs.declared.call.Mode.{Mode};
 ghost use Rattle.sid_core.specs.declared.call.Span.{Span};
 ghost use Rattle.sid_core.specs.declared.call.Tables.{Tables};
 ghost use Rattle.sid_core.specs.declared.entry.Entry.{Entry};
-ghost use Rattle.sid_core.specs.declared.entry.Event.TheVariants.{Tidied};
+ghost use Rattle.sid_core.specs.declared.entry.Event.TheVariants.{Died, Tidied};
 ghost use Rattle.sid_core.specs.declared.ids.Moment.{Moment};
 ghost use Rattle.sid_core.specs.declared.reply.Reply.{Reply};
 ghost use Rattle.sid_core.specs.declared.setup.Setup.{Setup};
@@ -15,7 +15,7 @@ ghost use Rattle.serial_table.specs.View.{View};
 ghost use Rattle.stored_table.specs.Places.{Chains, Place, HasChains, among, value_at};
 ghost use Rattle.stored_table.specs.Move.{move, places_written};
 ghost use Rattle.table_laws.specs.Reached.{ReachesUnchanged, SamePartsCount};
-ghost use Rattle.table_laws.specs.Standing.{LegalKeepsStanding, LegalKeepsStandingIfNew, call_entry};
+ghost use Rattle.table_laws.specs.Standing.{LegalKeepsStanding, LegalKeepsStandingIfNew, LegalKeepsStandingIfUnnamed, call_entry};
 
 /// What counts of a record goes by the records that it reaches: where these are the same in two databases, and the record itself is, the
 /// same parts of it count. So an entry that doesn't write a record, nor changes one that it reaches, leaves what counts of it, whatever the
@@ -71,4 +71,28 @@ pub fn calls_that_wait_keep_standing()
 pub fn tidied_chains_keep_standing()
     ensures { (setup : Setup) (n : ℕ) (before : List Entry) (by seq chain : ℕ)
         → LegalKeepsStanding setup n before (record { by = by; seq = seq; what = Tidied chain }) }
+{}
+
+/// What is written stands for the table afterwards: a death.
+pub fn deaths_keep_standing()
+    ensures { (setup : Setup) (n : ℕ) (before : List Entry) (by seq worker : ℕ) (moment : Moment)
+        → LegalKeepsStanding setup n before (record { by = by; seq = seq; what = Died worker moment }) }
+{}
+
+/// What is written stands for the table afterwards, where no record names the session that begins: `disconnect`.
+pub fn disconnects_keep_standing()
+    ensures { (setup : Setup) (n : ℕ) (before : List Entry) (by seq number : ℕ) (moment : Moment) (reply : Reply)
+        → LegalKeepsStandingIfUnnamed setup n before by seq number moment call.Disconnect reply }
+{}
+
+/// What is written stands for the table afterwards: `scavenge`.
+pub fn scavenges_keep_standing()
+    ensures { (setup : Setup) (n : ℕ) (before : List Entry) (by seq number : ℕ) (moment : Moment) (reply : Reply)
+        → LegalKeepsStanding setup n before (call_entry by seq number moment call.Scavenge reply) }
+{}
+
+/// What is written stands for the table afterwards: `reconnect`.
+pub fn reconnects_keep_standing()
+    ensures { (setup : Setup) (n : ℕ) (before : List Entry) (by seq number : ℕ) (moment : Moment) (worker made key : ℕ) (reply : Reply)
+        → LegalKeepsStanding setup n before (call_entry by seq number moment (call.Reconnect worker made key) reply) }
 {}
