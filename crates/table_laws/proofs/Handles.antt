@@ -28,12 +28,12 @@ states = 0 ∷ 1 ∷ 3 ∷ 5 ∷ 7 ∷ []
 each_state : (p : ℕ → Bool) → list_all p states ≡ true → (n : ℕ) → is_state n ≡ true → p n ≡ true
 each_state p all n e = let s = one_of (λ state. state == n) states e in subst (λ m. p m ≡ true) (eqb-true s.0 n s.2) (each p states all s.0 s.1)
 
-each_three : (p : ℕ → ℕ → ℕ → Bool) → list_all (λ a. list_all (λ b. list_all (p a b) states) states) states ≡ true
+pub each_three : (p : ℕ → ℕ → ℕ → Bool) → list_all (λ a. list_all (λ b. list_all (p a b) states) states) states ≡ true
     → (a b c : ℕ) → is_state a ≡ true → is_state b ≡ true → is_state c ≡ true → p a b c ≡ true
 each_three p all a b c ea eb ec =
     each_state (p a b) (each_state (λ b. list_all (p a b) states) (each_state (λ a. list_all (λ b. list_all (p a b) states) states) all a ea) b eb) c ec
 
-if_so : (a b : Bool) → (not a || b) ≡ true → a ≡ true → b ≡ true
+pub if_so : (a b : Bool) → (not a || b) ≡ true → a ≡ true → b ≡ true
 if_so true b e h = e
 if_so false b e h = absurd cc
 

@@ -7,11 +7,13 @@ pub mod Settling
 pub mod Exactly
 pub mod Lessened
 pub mod Handles
+pub mod Fading
 pub mod Stepping
 pub mod Touching
 pub mod Meets
 pub mod Deciding
 pub mod Chains
+pub mod OpenRecords
 pub mod Calls
 pub mod HandleCalls
 pub mod HandleEvents
@@ -21,3 +23,4 @@ pub mod Breaking
 pub mod WriteEvents
 pub mod WaitEvents
 pub mod AckEvents
+pub mod OpenEvents
