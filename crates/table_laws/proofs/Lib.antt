@@ -15,6 +15,7 @@ pub mod DeathEvents
 pub mod SessionEvents
 pub mod ScavengeEvents
 pub mod ReconnectEvents
+pub mod Fading
 pub mod Stepping
 pub mod Touching
 pub mod Meets
@@ -22,6 +23,7 @@ pub mod KeysThere
 pub mod Deciding
 pub mod AddedOpens
 pub mod Chains
+pub mod OpenRecords
 pub mod Calls
 pub mod HandleCalls
 pub mod HandleEvents
@@ -31,3 +33,4 @@ pub mod Breaking
 pub mod WriteEvents
 pub mod WaitEvents
 pub mod AckEvents
+pub mod OpenEvents
