@@ -1,4 +1,3 @@
 pub mod ByOwner
 pub mod Sets
-pub mod Settling
 mod BreakExamples

@@ -23,35 +23,12 @@ use Rattle.sid_core.specs.declared.reply.Reply.TheVariants.{RequestNotAccepted}
 use Rattle.serial_table.specs.declared.decision.Decision.{Decision}
 use Rattle.serial_table.specs.Decision.{only_reply}
 use Rattle.record_rows.specs.Rows.{lease_row, breaking_of}
+use Rattle.leases_db.proofs.Sets.{broken_or_not, fewer_refs}
+use Rattle.leases_db.proofs.Settled.{settled_record}
 use Rattle.lease_breaks.specs.Breaks.{with_state, settled, all_changed, kept}
 use Rattle.lease_breaks.specs.Acks.{ack_by_owner, accept_by_owner, Answers}
 use Rattle.lease_breaks.specs.declared.acks.Acked.{Acked}
 use Rattle.lease_breaks.specs.declared.acks.Acked.TheVariants.{Unsuccessful, NotAccepted, Taken}
-
--- ---- lists
-
-module _ {X : Type 0} where
-  all_at : (P : X → Type 0) (b : Bool) (x : X) (xs : List X) → P x → AllByRecursion P xs → AllByRecursion P (cond b (x ∷ xs) xs)
-  all_at P true x xs h hs = (h, hs)
-  all_at P false x xs h hs = hs
-
-  all_filtered : (P : X → Type 0) (p : X → Bool) (xs : List X) → AllByRecursion P xs → AllByRecursion P (filter p xs)
-  all_filtered P p [] h = h
-  all_filtered P p (x ∷ xs) h = all_at P (p x) x (filter p xs) h.0 (all_filtered P p xs h.1)
-
-  fewer_at : (b : Bool) (x : X) (xs : List X) (n : ℕ) → length xs ≤ n → length (cond b (x ∷ xs) xs) ≤ n + 1
-  fewer_at true x xs n h = omega arith
-  fewer_at false x xs n h = omega arith
-
-  fewer : (p : X → Bool) (xs : List X) → length (filter p xs) ≤ length xs
-  fewer p [] = omega arith
-  fewer p (x ∷ xs) = let h : length (cond (p x) (x ∷ filter p xs) (filter p xs)) ≤ length xs + 1 = fewer_at (p x) x (filter p xs) (length xs) (fewer p xs) in omega arith
-
-refs_kept : (p : LeaseRef → Bool) (refs : List LeaseRef) → IsListOf IsLeaseRef refs → IsListOf IsLeaseRef (filter p refs)
-refs_kept p refs h = record {
-  few = let n : length (filter p refs) ≤ length refs = fewer p refs in let m : length refs < 2 ^ 32 = h.few in omega arith;
-  each = all_filtered IsLeaseRef p refs h.each;
-}
 
 -- ---- the state
 
@@ -97,34 +74,7 @@ with_state_keeps held (Some b) r h s i = record {
 
 pub settled_keeps : (records : Records) (r : LeaseRec) → IsLeaseRec r → IsLeaseRec (settled records r)
 settled_keeps records r h =
-    let refs : IsListOf IsLeaseRef (settled_refs records r) = refs_kept (ref_counts records r) r.refs h.refs in
-    cond_both (is_unanswered records r) _ _ IsLeaseRec
-    (λ _. record {
-      file = h.file;
-      held = h.needed;
-      asked = refl;
-      needed = refl;
-      unbroken_asked = λ _. refl;
-      unbroken_needed = λ _. refl;
-      broken_asked = λ e. absurd cc;
-      broken_needed = λ e. absurd cc;
-      unbroken_until = λ _. refl;
-      broken_until = λ e. absurd cc;
-      refs = refs;
-    })
-    (λ _. record {
-      file = h.file;
-      held = h.held;
-      asked = h.asked;
-      needed = h.needed;
-      unbroken_asked = h.unbroken_asked;
-      unbroken_needed = h.unbroken_needed;
-      broken_asked = h.broken_asked;
-      broken_needed = h.broken_needed;
-      unbroken_until = h.unbroken_until;
-      broken_until = h.broken_until;
-      refs = refs;
-    })
+    subst IsLeaseRec (settled_record records r (is_unanswered records r)) (fewer_refs _ _ (broken_or_not (is_unanswered records r) r h))
 
 -- ---- breaks
 

@@ -1,9 +1,8 @@
 -- What the changes of a break make of the record of the lease.
-use Rattle.std.specs.Prelude.{◌≡◌, ℕ, true, false, ◌==◌, ◌&&◌, ◌||◌, not, List, [], ◌∷◌, Option, Some, None, filter, find, if◌then◌else◌}
+use Rattle.std.specs.Prelude.{◌≡◌, ℕ, true, false, ◌==◌, List, [], ◌∷◌, Option, Some, None, find, if◌then◌else◌}
 use Rattle.std.specs.Option.{option_map}
 use Rattle.sid_core.specs.declared.ids.Sid.{Sid}
 use Rattle.sid_core.specs.declared.bits.LeaseState.{LeaseState}
-use Rattle.sid_core.specs.Values.{has}
 use Rattle.sid_core.specs.Words.{lease_state}
 use Rattle.serial_table.specs.declared.rows.Breaking.{Breaking}
 use Rattle.serial_table.specs.declared.change.Change.{Change}
@@ -30,10 +29,6 @@ with_state held (Some b) r = record r { held = held; breaking = true; asked = b.
 -- Settled, a record of which no open is left has no references.
 abbrev pub settled : Records → LeaseRec → LeaseRec
 settled records r = with_refs records r (settled_refs records r)
-
--- For the code: without the opens that don't count by what the lease holds.
-abbrev pub without_stale : Records → LeaseRec → LeaseRec
-without_stale records r = record r { refs = filter (λ ref. is_connected records ref || (not (ref.durable == 0) && has r.held.0 2)) r.refs }
 
 -- The changes that the break of a lease makes are of this lease.
 abbrev pub changed : Records → Change → LeaseRec → LeaseRec

@@ -10,7 +10,8 @@ ghost use Rattle.lease_breaks.specs.Breaks.{first_connected};
 ghost use Rattle.lease_breaks.specs.Acks.{ack_by_owner, accept_by_owner, Answers};
 
 use crate::breaks::break_by_owner;
-use crate::states::{breaking_of, first_connected, hold, is_part_of, settle};
+use crate::states::{breaking_of, first_connected, hold, is_part_of};
+use leases_db::settle;
 use record_codec::LeaseRec;
 use serial_table::Breaking;
 use server_ids::Register;

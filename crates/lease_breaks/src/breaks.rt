@@ -10,9 +10,8 @@ ghost use Rattle.server_ids.specs.Sessions.{registered};
 ghost use Rattle.record_rows.specs.Rows.{lease_row, breaking_of};
 ghost use Rattle.lease_breaks.specs.Breaks.{first_connected, kept, Does};
 
-use crate::states::{
-    breaking_of, common_part, first_connected, hold, is_part_of, set_breaking, settle,
-};
+use crate::states::{breaking_of, common_part, first_connected, hold, is_part_of, set_breaking};
+use leases_db::settle;
 use record_codec::LeaseRec;
 use serial_table::Breaking;
 use server_ids::Register;

@@ -1,18 +1,15 @@
-ghost use Rattle.std.specs.Prelude.{◌≡◌, [], ◌==◌, ◌&&◌, ◌||◌, not, Some, None, bit_and, filter, find, if◌then◌else◌};
-ghost use Rattle.std.specs.List.{list_any};
+ghost use Rattle.std.specs.Prelude.{◌≡◌, Some, None, bit_and, find};
 ghost use Rattle.std.specs.Option.{option_map};
-ghost use Rattle.sid_core.specs.Values.{has, is_part_of};
+ghost use Rattle.sid_core.specs.Values.{is_part_of};
 ghost use Rattle.record_codec.specs.Counts as counts;
 ghost use Rattle.server_ids.specs.Sessions.{registered};
 ghost use Rattle.record_rows.specs.Rows.{breaking_of};
-ghost use Rattle.lease_breaks.specs.Breaks.{with_state, first_connected, without_stale, settled};
+ghost use Rattle.lease_breaks.specs.Breaks.{with_state, first_connected};
 
-use bitflags::Flags;
 use record_codec::{LeaseRec, LeaseRef};
 use serial_table::Breaking;
 use server_ids::{Register, living};
-use sid_core::{Items, LeaseState, Moment, Sid};
-use std::mem;
+use sid_core::{LeaseState, Moment, Sid};
 
 pub(crate) fn is_part_of(part: LeaseState, whole: LeaseState) -> bool
     ensures { result ≡ is_part_of part.0 whole.0 }
@@ -83,71 +80,4 @@ pub(crate) fn first_connected(register: &Register, rec: &LeaseRec) -> Option<Sid
     ensures { result ≡ first_connected (registered register.now) rec.now }
 {
     owner_of_first(register, rec.refs.as_slice())
-}
-
-// ---- settling
-
-fn some_connected(register: &Register, refs: &[LeaseRef]) -> bool
-    ensures { result ≡ list_any (counts.is_connected (registered register.now)) refs.now }
-{
-    refs.iter()
-        .any(|reference| is_connected(register, reference))
-}
-
-fn is_unanswered(register: &Register, rec: &LeaseRec) -> bool
-    ensures { result ≡ counts.is_unanswered (registered register.now) rec.now }
-{
-    rec.breaking && !some_connected(register, rec.refs.as_slice())
-}
-
-fn end_unanswered(rec: &mut LeaseRec, register: &Register)
-    ensures { rec.new ≡ (if counts.is_unanswered (registered register.now) rec.old then with_state rec.old.needed None rec.old else rec.old) }
-{
-    if is_unanswered(register, rec) {
-        let needed = rec.needed;
-        hold(rec, needed);
-    }
-}
-
-fn ref_counts(register: &Register, handle: bool, reference: &LeaseRef) -> bool
-    ensures { result ≡ (counts.is_connected (registered register.now) reference.now || (not (reference.now.durable == 0) && handle)) }
-{
-    is_connected(register, reference) || (reference.durable != 0 && handle)
-}
-
-fn keep_counted(refs: &mut Vec<LeaseRef>, register: &Register, handle: bool)
-    ensures { refs.new.items ≡ filter (λ r. counts.is_connected (registered register.now) r || (not (r.durable == 0) && handle)) refs.old.items }
-{
-    refs.retain(|reference| ref_counts(register, handle, reference));
-}
-
-fn take(list: &mut Items<LeaseRef>) -> Vec<LeaseRef>
-    ensures taken { result.items ≡ list.old }
-    ensures emptied { list.new ≡ [] }
-{
-    let alloc = list.allocator();
-    mem::replace(list, Items::new(alloc)).into_vec()
-}
-
-fn has_handle(rec: &LeaseRec) -> bool
-    ensures { result ≡ has rec.now.held.0 2 }
-{
-    rec.held.intersects(LeaseState::HANDLE)
-}
-
-fn drop_stale(rec: &mut LeaseRec, register: &Register)
-    ensures { rec.new ≡ without_stale (registered register.now) rec.old }
-{
-    let handle = has_handle(rec);
-    let mut refs = take(&mut rec.refs);
-    keep_counted(&mut refs, register, handle);
-    rec.refs = Items::from_vec(refs);
-}
-
-/// The break is over where nobody can acknowledge it, and the opens go that no longer count. Takes no memory.
-pub(crate) fn settle(rec: &mut LeaseRec, register: &Register)
-    ensures { rec.new ≡ settled (registered register.now) rec.old }
-{
-    end_unanswered(rec, register);
-    drop_stale(rec, register);
 }

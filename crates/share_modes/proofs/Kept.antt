@@ -9,25 +9,11 @@ use Rattle.record_codec.specs.declared.share_rec.ShareRec.{ShareRec}
 use Rattle.record_codec.specs.ShareRec.{IsShareEntry, IsShareRec}
 use Rattle.record_rows.specs.Rows.{open_row}
 use Rattle.share_modes.specs.Entries.{with_entry, other_open, without_open}
+use Rattle.serial_table.proofs.Counting.{length_filtered}
+use Rattle.leases_db.proofs.Lists.{all_kept}
 use Rattle.share_modes.proofs.InTheWay.{filtered_in_map}
 
 module _ {X : Type 0} where
-  all_at : (P : X → Type 0) (b : Bool) (x : X) (xs : List X) → P x → AllByRecursion P xs → AllByRecursion P (cond b (x ∷ xs) xs)
-  all_at P true x xs h hs = (h, hs)
-  all_at P false x xs h hs = hs
-
-  all_filtered : (P : X → Type 0) (p : X → Bool) (xs : List X) → AllByRecursion P xs → AllByRecursion P (filter p xs)
-  all_filtered P p [] h = h
-  all_filtered P p (x ∷ xs) h = all_at P (p x) x (filter p xs) h.0 (all_filtered P p xs h.1)
-
-  fewer_at : (b : Bool) (x : X) (xs : List X) (n : ℕ) → length xs ≤ n → length (cond b (x ∷ xs) xs) ≤ n + 1
-  fewer_at true x xs n h = omega arith
-  fewer_at false x xs n h = omega arith
-
-  fewer : (p : X → Bool) (xs : List X) → length (filter p xs) ≤ length xs
-  fewer p [] = omega arith
-  fewer p (x ∷ xs) = let h : length (cond (p x) (x ∷ filter p xs) (filter p xs)) ≤ length xs + 1 = fewer_at (p x) x (filter p xs) (length xs) (fewer p xs) in omega arith
-
   all_with : (P : X → Type 0) (xs : List X) (x : X) → AllByRecursion P xs → P x → AllByRecursion P (xs ++ x ∷ [])
   all_with P [] x h k = (k, tt)
   all_with P (y ∷ ys) x h k = (h.0, all_with P ys x h.1 k)
@@ -55,8 +41,8 @@ without_open_keeps id rec sets = record {
   name = sets.name;
   watchers = sets.watchers;
   entries = record {
-    few = let n : length (filter (other_open id) rec.entries) ≤ length rec.entries = fewer (other_open id) rec.entries in let m : length rec.entries < 2 ^ 32 = sets.entries.few in omega arith;
-    each = all_filtered IsShareEntry (other_open id) rec.entries sets.entries.each;
+    few = let n : length (filter (other_open id) rec.entries) ≤ length rec.entries = length_filtered (other_open id) rec.entries in let m : length rec.entries < 2 ^ 32 = sets.entries.few in omega arith;
+    each = all_kept IsShareEntry (other_open id) rec.entries sets.entries.each;
   };
 }
 

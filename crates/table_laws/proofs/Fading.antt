@@ -114,14 +114,14 @@ module _ (setup : Setup) (ps : List Place) (s : AllRecords) (t b u : Table) (f :
   }
 
   -- What is done behind it is done beside no more places.
-  pub lessened_behind : Lessened setup ps s b u → Lessened setup ps s t u
-  lessened_behind l = record {
+  pub lessened_behind : ((sid : Sid) → lives (view u) sid ≡ true → lives (view b) sid ≡ true) → Lessened setup ps s b u → Lessened setup ps s t u
+  lessened_behind living l = record {
     here = l.here;
     written = l.written;
-    living = λ sid e. sym (lives_same sid) ∙ l.living sid e;
+    living = λ sid e. inl (sym (lives_same sid) ∙ living sid e);
     worker_mail = λ pid unmet. l.worker_mail pid unmet ∙ worker_same pid;
     worker_register = λ pid unmet. let w = l.worker_register pid unmet in (w.0 ∙ worker_same pid, w.1 ∙ ap (filter (is_end_of pid)) f.ended);
-    others = λ file out. less_then file (view t) (view b) (view u) l.living (f.files file) (l.others file out);
+    others = λ file out. less_then file (view t) (view b) (view u) living (f.files file) (l.others file out);
     leases = λ name unmet r living. ap (option_and_then (Rattle.record_codec.specs.Counts.settled_lease r)) (f.leases name unmet) ∙ l.leases name unmet r living;
     handles = λ file out name row i h. let old = l.handles file out name row i h in f.handles file name old.0 old.1 old.2;
     holds = λ key unmet. l.holds key unmet ∙ ap (λ hs. filter (λ (hold : Rattle.serial_table.specs.declared.rows.HoldRow.HoldRow). lives (view u) hold.owner) (filter (is_hold_of key) hs)) f.holds;

@@ -76,7 +76,7 @@ use Rattle.stored_table.specs.Moved.{moved}
 use Rattle.stored_table.specs.Stands.{AgreeWith, HasOpenRecords, StandsFor}
 use Rattle.table_laws.specs.Standing.{IsUnwatched, KeepsStandingIfNew}
 use Rattle.table_laws.proofs.Contained.{share_place, ranges_place, lease_place, register_place, mail_place, IsMetName, Contained}
-use Rattle.table_laws.proofs.Lessened.{Lessened, lessened}
+use Rattle.table_laws.proofs.Lessened.{Lessened, lessened, living_stays}
 use Rattle.table_laws.proofs.Fading.{Fades, expired, settles_to, fades, lessened_behind}
 use Rattle.table_laws.proofs.Exactly.{in_opens}
 use Rattle.table_laws.proofs.Meets.{is_among, own_mail, name_met, files_written, leases_met, owner_register, owner_mail, open_watcher_met, range_watcher_met}
@@ -453,7 +453,9 @@ module _ (setup : Setup) (n : ℕ) (k : Chains) (t : Table) (stands : StandsFor 
           are_contained.touched are_contained.reached are_contained.new
 
       pub open_lessens : Lessened setup open_places s t end
-      open_lessens = lessened_behind setup open_places s t behind end behind_fades (lessened setup open_places s behind end behind_sound sound_after later_contained)
+      open_lessens =
+          lessened_behind setup open_places s t behind end behind_fades (λ sid e. sym (living_stays setup open_places s behind end behind_sound sound_after later_contained sid) ∙ e)
+          (lessened setup open_places s behind end behind_sound sound_after later_contained)
 
       -- an open is an old one, or the call's own where it is granted
       pub opens_then : (o : OpenRow) → IsIn o end.opens → IsIn o t.opens ⊎ ((is_grant (decide setup (view behind) caller which).reply && is_own_open info.pid number file o) ≡ true)

@@ -16,4 +16,4 @@ returns c =
     let does : Does records (break_by_owner c.args.now rec.file (first_connected records rec) c.args.needed.0 (acknowledged (lease_row c.args.name rec) c.args.state) None) again (with_state c.args.state None rec) left =
     subst (λ m. Does records (break_by_owner c.args.now m.file (first_connected records m) c.args.needed.0 (lease_row c.args.name m) (breaking_of m)) again m left) c.hold.ensures
     (subst (λ o. Does records (break_by_owner c.args.now mid.file o c.args.needed.0 (lease_row c.args.name mid) (breaking_of mid)) again mid left) c.first_connected-to.ensures c.break_by_owner-again.ensures) in
-    record { done = refl; letter = does.post; changes = c.settle.ensures ∙ ap (settled records) does.changes }
+    record { done = refl; letter = does.post; changes = c.settle.ensures.record ∙ ap (settled records) does.changes }
