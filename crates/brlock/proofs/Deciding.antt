@@ -1,5 +1,5 @@
 -- What a table decides of a `lock`, a `read` and a `write`, by what is found in a record.
-use Rattle.std.proofs.Common.{◌≡◌, ◌&&◌, ◌||◌, ◌==◌, not, ℕ, ◌<◌, Bool, true, false, cond, List, [], ◌∷◌, filter, find, Option, Some, None, refl, ap, sym, ◌∙◌, arith}
+use Rattle.std.proofs.Common.{◌≡◌, ◌||◌, ◌==◌, not, ℕ, ◌<◌, Bool, true, false, cond, List, [], ◌∷◌, filter, find, Option, Some, None, refl, ap, sym, ◌∙◌, arith}
 use Rattle.std.specs.Option.{option_map, option_map_or}
 use Rattle.std.specs.List.{list_any}
 use Rattle.sid_core.specs.declared.ids.OpenId.{OpenId}
@@ -90,7 +90,7 @@ added_names_none OutOfMemory h = refl
 pub added_decides : (valid : List OpenId) (ranges : List RangeItem) (id : OpenId) (span : Span) (mode : Mode) → passes_end span ≡ false
     → None ≡ option_map (λ (held : RangeItem). held.id) (find (is_in_the_way valid id span mode) ranges) → (a : RAnswer) → IsAdded a
     → IfAnswered a ((records : Records) (file : ℕ) (f : FileView) (caller : Caller) (wait : Bool) (open_row : OpenRow) → AsksAmong records file valid ranges id f open_row → has open_row.access.0 0x3 ≡ true
-        → told f caller span mode wait open_row a ≡ lock_range f caller span mode wait open_row)
+    → told f caller span mode wait open_row a ≡ lock_range f caller span mode wait open_row)
 added_decides valid ranges id span mode fits none Granted h = λ records file f caller wait open_row asks may.
     ap (λ o. told f caller span mode wait open_row (answer_of o)) none ∙ decides f caller span mode wait open_row records file valid ranges id asks may fits
 added_decides valid ranges id span mode fits none (Conflict other) h = absurd h

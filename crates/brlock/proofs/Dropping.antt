@@ -1,5 +1,5 @@
 -- What a table decides of an `unlock`, by what is found in a record.
-use Rattle.std.proofs.Common.{◌≡◌, ◌&&◌, ◌||◌, ◌==◌, not, ℕ, suc, ◌+◌, nat_lt, Bool, true, false, cond, List, [], ◌∷◌, length, filter, map, Option, Some, None, arith, refl, ap, sym, ◌∙◌, eq-eqb}
+use Rattle.std.proofs.Common.{◌≡◌, ◌&&◌, ◌||◌, ◌==◌, not, ℕ, suc, ◌+◌, nat_lt, Bool, true, false, cond, List, [], ◌∷◌, length, filter, map, Some, None, arith, refl, ap, sym, ◌∙◌, eq-eqb}
 use Rattle.std.specs.List.{list_any, position, position_or_len}
 use Rattle.std.proofs.lemmas.Bool.{and_parts}
 use Rattle.sid_core.specs.declared.ids.OpenId.{OpenId}
@@ -9,7 +9,6 @@ use Rattle.sid_core.specs.declared.call.Mode.TheVariants.{Shared, Exclusive}
 use Rattle.sid_core.specs.declared.reply.Reply.TheVariants.{RangeNotLocked}
 use Rattle.sid_core.specs.Ids.{same_id}
 use Rattle.serial_table.specs.declared.rows.OpenRow.{OpenRow}
-use Rattle.serial_table.specs.declared.rows.RangeRow.{RangeRow}
 use Rattle.serial_table.specs.File.{FileView}
 use Rattle.serial_table.specs.Lists.{drop_first}
 use Rattle.serial_table.specs.Change.{same_mode, same_range}
@@ -23,7 +22,7 @@ use Rattle.serial_table.proofs.Filters.{any_kept, filter-drop_first, filter_drop
 use Rattle.record_codec.specs.declared.range_rec.RangeItem.{RangeItem}
 use Rattle.record_codec.specs.Counts.{Records, id_counts, range_counts}
 use Rattle.brlock.specs.Ranges.{range_row, counted_ranges, stale_ranges, AsksBefore}
-use Rattle.brlock.specs.Answer.{item_of, without_changes, told_unlocked, is_range, has_range, without_range, ranges_with}
+use Rattle.brlock.specs.Answer.{without_changes, told_unlocked, is_range, has_range, without_range, ranges_with}
 
 there_here : (b : Bool) (n l : ℕ) (c : Bool) → nat_lt n l ≡ c → nat_lt (cond (not b) (1 + n) 0) (suc l) ≡ (b || c)
 there_here true n l c e = grind arith

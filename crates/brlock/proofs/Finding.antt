@@ -15,10 +15,10 @@ use Rattle.serial_table.proofs.Finding.{find-of_map, find-of_filter}
 use Rattle.record_codec.specs.declared.range_rec.RangeItem.{RangeItem}
 use Rattle.record_codec.specs.declared.share_rec.ShareEntry.{ShareEntry}
 use Rattle.record_codec.specs.declared.share_rec.ShareRec.{ShareRec}
-use Rattle.record_codec.specs.Counts.{Records, entry_counts, entry_of_id_counts, id_counts, range_counts}
+use Rattle.record_codec.specs.Counts.{Records, entry_counts, entry_of_id_counts, range_counts}
 use Rattle.brlock.specs.Ranges.{range_row, counted_ranges, AreValid, valid_ids, AsksAmong}
 use Rattle.brlock.specs.Answer.{forbids}
-use Rattle.brlock.specs.Scans.{open_with, is_valid, conflicts, is_in_the_way, item_forbids, is_forbidding}
+use Rattle.brlock.specs.Scans.{open_with, is_valid, is_in_the_way, item_forbids, is_forbidding}
 
 find_alike : {X : Type 0} (p q : X → Bool) → ((x : X) → p x ≡ q x) → (xs : List X) → find p xs ≡ find q xs
 find_alike p q h [] = refl

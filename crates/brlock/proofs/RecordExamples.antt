@@ -1,16 +1,13 @@
 -- Worked examples: a record of ranges, some of opens that don't count. 101 lives in its session 2 and 103 in its session 1; 102 is dead.
-use Rattle.std.specs.Prelude.{◌≡◌, ℕ, Bool, true, false, List, [], ◌∷◌, ◌==◌, Option, Some, None, if◌then◌else◌, codes, refl}
+use Rattle.std.specs.Prelude.{◌≡◌, ℕ, Bool, true, false, List, [], ◌∷◌, ◌==◌, Some, None, if◌then◌else◌, codes, refl}
 use Rattle.sid_core.specs.declared.ids.OpenId.{OpenId}
-use Rattle.sid_core.specs.declared.ids.Sid.{Sid}
 use Rattle.sid_core.specs.declared.call.Span.{Span}
 use Rattle.sid_core.specs.declared.call.Mode.{Mode}
 use Rattle.sid_core.specs.declared.call.Mode.TheVariants.{Shared, Exclusive}
-use Rattle.sid_core.specs.declared.reply.Reply.TheVariants.{Done, InvalidLockRange, LockNotGranted, Pending, RangeNotLocked, FileLockConflict}
 use Rattle.serial_table.specs.declared.rows.OpenRow.{OpenRow}
 use Rattle.serial_table.specs.declared.rows.RangeRow.{RangeRow}
 use Rattle.serial_table.specs.declared.decision.Caller.{Caller}
-use Rattle.serial_table.specs.File.{FileView, FileOpen}
-use Rattle.serial_table.specs.Decision.{only_reply}
+use Rattle.serial_table.specs.File.{FileView}
 use Rattle.serial_table.specs.Lock.{lock_range}
 use Rattle.serial_table.specs.Unlock.{unlock_range}
 use Rattle.record_codec.specs.declared.range_rec.RangeItem.{RangeItem}
@@ -19,7 +16,7 @@ use Rattle.record_codec.specs.declared.share_rec.ShareEntry.{ShareEntry}
 use Rattle.record_codec.specs.declared.share_rec.ShareRec.{ShareRec}
 use Rattle.record_codec.specs.Counts.{Records}
 use Rattle.brlock.specs.declared.answer.RAnswer.TheVariants.{Granted, Conflict, InvalidRange}
-use Rattle.brlock.specs.Ranges.{range_row, counted_ranges, stale_ranges, valid_ids}
+use Rattle.brlock.specs.Ranges.{counted_ranges, stale_ranges, valid_ids}
 use Rattle.brlock.specs.Answer.{item_of, told, first_conflict, without_range, ranges_with, without_changes, told_unlocked, first_forbidding, decided, told_io}
 
 abbrev id : ℕ → ℕ → OpenId

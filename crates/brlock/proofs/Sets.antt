@@ -1,14 +1,13 @@
 -- What becomes of a record: what counts of it, what doesn't, and that its values keep their sets.
-use Rattle.std.proofs.Common.{◌≡◌, ◌==◌, ◌-◌, ◌||◌, not, ℕ, ◌<◌, ◌≤◌, ◌+◌, ◌^◌, nat_lt, Bool, true, false, cond, List, [], ◌∷◌, ◌++◌, length, filter, map, refl, ap, sym, subst, ◌∙◌, arith}
+use Rattle.std.proofs.Common.{◌≡◌, ◌-◌, not, ℕ, ◌<◌, ◌≤◌, ◌+◌, ◌^◌, nat_lt, Bool, true, false, cond, List, [], ◌∷◌, ◌++◌, length, filter, map, refl, ap, sym, ◌∙◌, arith}
 use Rattle.std.specs.List.{AllByRecursion}
 use Rattle.std.proofs.lemmas.Bool.{ltb-false}
 use Rattle.sid_core.specs.declared.ids.OpenId.{OpenId}
 use Rattle.sid_core.specs.declared.call.Span.{Span}
 use Rattle.sid_core.specs.declared.call.Mode.{Mode}
 use Rattle.sid_core.specs.declared.call.Mode.TheVariants.{Shared, Exclusive}
-use Rattle.sid_core.specs.Values.{IsU64, IsSpan}
+use Rattle.sid_core.specs.Values.{IsSpan}
 use Rattle.serial_table.specs.declared.rows.OpenRow.{OpenRow}
-use Rattle.serial_table.specs.declared.rows.RangeRow.{RangeRow}
 use Rattle.serial_table.specs.File.{FileView}
 use Rattle.serial_table.specs.Lists.{drop_first}
 use Rattle.serial_table.specs.Range.{passes_end, range_of}
@@ -16,7 +15,7 @@ use Rattle.serial_table.proofs.Filters.{filter_one_out}
 use Rattle.serial_table.proofs.Counting.{length_pushed, length_dropped}
 use Rattle.record_codec.specs.declared.range_rec.RangeItem.{RangeItem}
 use Rattle.record_codec.specs.declared.range_rec.RangeRec.{RangeRec}
-use Rattle.record_codec.specs.Counts.{Records, id_counts, range_counts}
+use Rattle.record_codec.specs.Counts.{Records, range_counts}
 use Rattle.record_codec.specs.Fields.{IsOpenId, IsListOf}
 use Rattle.record_codec.specs.RangeRec.{IsRangeItem, IsRangeRec}
 use Rattle.brlock.specs.declared.answer.RAnswer.{RAnswer}

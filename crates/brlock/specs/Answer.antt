@@ -21,7 +21,6 @@ use Rattle.serial_table.specs.Decision.{only_reply, spots_of}
 use Rattle.serial_table.specs.Break.{break_others, none_of_them}
 use Rattle.serial_table.specs.Range.{range_conflict, passes_end, range_of}
 use Rattle.serial_table.specs.Lock.{grant_range, range_blocker, wait_for_range}
-use Rattle.serial_table.specs.Unlock.{unlock_range}
 use Rattle.serial_table.specs.ReadWrite.{forbids_read, read_file, forbids_write, written, write_file}
 use Rattle.record_codec.specs.declared.range_rec.RangeItem.{RangeItem}
 use Rattle.record_codec.specs.declared.range_rec.RangeRec.{RangeRec}

@@ -1,5 +1,5 @@
 -- Ranges of records as a table has them, and when a table shows of a file the ranges of its record that count.
-use Rattle.std.specs.Prelude.{◌≡◌, ℕ, true, not, List, [], map, filter}
+use Rattle.std.specs.Prelude.{◌≡◌, ℕ, true, not, List, map, filter}
 use Rattle.std.specs.List.{list_any}
 use Rattle.sid_core.specs.declared.ids.OpenId.{OpenId}
 use Rattle.sid_core.specs.Ids.{same_id}

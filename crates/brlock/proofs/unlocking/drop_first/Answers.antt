@@ -1,4 +1,4 @@
-use Rattle.std.proofs.Common.{◌≡◌, Some, None, ap, ◌∙◌, sym}
+use Rattle.std.proofs.Common.{ap, ◌∙◌, sym}
 use Rattle.std.specs.List.{position, remove}
 use Rattle.serial_table.proofs.Rewriting.{drop_found, drop_missing}
 use Rattle.brlock.specs.Answer.{is_range}

@@ -1,9 +1,7 @@
-use Rattle.std.proofs.Common.{◌≡◌, true, false, ap, sym, subst, ◌∙◌}
-use Rattle.sid_core.specs.declared.call.Mode.TheVariants.{Shared, Exclusive}
-use Rattle.serial_table.specs.Lists.{drop_first}
+use Rattle.std.proofs.Common.{ap, sym, subst, ◌∙◌}
 use Rattle.record_codec.specs.RangeRec.{IsRangeRec}
 use Rattle.brlock.specs.Ranges.{counted_ranges, stale_ranges}
-use Rattle.brlock.specs.Answer.{told_unlocked, is_range, has_range, without_range}
+use Rattle.brlock.specs.Answer.{told_unlocked}
 use Rattle.brlock.proofs.Dropping.{unlocks, exclusive_left, shared_left, exclusive_there, shared_there}
 use Rattle.brlock.proofs.Sets.{unlocked_keeps}
 use Rattle.brlock.proofs.unlocking.unlock.Goals as goal
