@@ -43,7 +43,7 @@ fn share_a_byte(a: Span, b: Span) -> bool
 }
 
 /// Whether two ranges overlap ([MS-FSA] 2.1.4.10). One of length 0 is the place before its first byte, and overlaps one that has bytes on
-/// both sides of it; two of length 0 don't overlap. Ranges that pass the end of a file have their bytes up to it and beyond.
+/// both sides of it; two of length 0 don't overlap. A range may pass 2^64 - 1, and is compared whole.
 pub fn overlap(a: Span, b: Span) -> bool
     ensures { result ≡ table.overlap a b }
 {
