@@ -26,6 +26,8 @@ mod lines;
 #[cfg(test)]
 mod locks;
 #[cfg(test)]
+mod ranges;
+#[cfg(test)]
 mod records;
 #[cfg(test)]
 mod run;
