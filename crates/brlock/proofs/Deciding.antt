@@ -52,14 +52,6 @@ module _ (f : FileView) (caller : Caller) (span : Span) (mode : Mode) (wait : Bo
   allowed true true a b rest = absurd cc
   allowed false passes a b rest = absurd cc
 
-  passing : (may : Bool) (passes : Bool) → may ≡ true → passes ≡ true → (rest : Decision) → only_reply InvalidLockRange ≡ cond (not may) (only_reply AccessDenied) (cond passes (only_reply InvalidLockRange) rest)
-  passing true true a b rest = refl
-  passing true false a b rest = absurd cc
-  passing false passes a b rest = absurd cc
-
-  pub refuses_past_end : has open_row.access.0 0x3 ≡ true → passes_end span ≡ true → told f caller span mode wait open_row InvalidRange ≡ lock_range f caller span mode wait open_row
-  refuses_past_end may past = passing (has open_row.access.0 0x3) (passes_end span) may past (lock_by f caller span mode wait open_row (filter (λ held. range_conflict held open_row.id span mode) f.ranges))
-
   pub decides : (records : Records) (file : ℕ) (valid : List OpenId) (ranges : List RangeItem) (id : OpenId) → AsksAmong records file valid ranges id f open_row → has open_row.access.0 0x3 ≡ true → passes_end span ≡ false
       → told f caller span mode wait open_row (answer_of (option_map (λ (held : RangeItem). held.id) (find (is_in_the_way valid id span mode) ranges))) ≡ lock_range f caller span mode wait open_row
   decides records file valid ranges id asks may fits =

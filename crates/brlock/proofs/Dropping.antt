@@ -76,33 +76,42 @@ contrary : (b d : Bool) → (b ≡ true → d ≡ true) → d ≡ false → b �
 contrary true d h e = let w : d ≡ true = h refl in absurd cc
 contrary false d h e = refl
 
-module _ (records : Records) (file : ℕ) (ranges : List RangeItem) (id : OpenId) (f : FileView) (open_row : OpenRow) (asks : AsksBefore records file ranges id f open_row) (span : Span) where
+module _ (records : Records) (file : ℕ) (ranges : List RangeItem) (id : OpenId) (counts : id_counts records file id ≡ true) (span : Span) where
+  -- the ranges of an open that counts count
+  own_counts : (mode : Mode) (r : RangeItem) → is_range id span mode r ≡ true → range_counts records file r ≡ true
+  own_counts mode r e =
+      ap (id_counts records file) (same_id-eq r.id id (and_parts (same_id r.id id) ((r.start == span.start) && ((r.length == span.length) && same_mode r.mode mode)) e).0) ∙ counts
+
+  stale_dropped : (mode : Mode) → stale_ranges records file (drop_first (is_range id span mode) ranges) ≡ stale_ranges records file ranges
+  stale_dropped mode =
+      filter_dropped_out (is_range id span mode) (λ r. not (range_counts records file r)) (λ r e. ap not (own_counts mode r e)) ranges
+
+  stale_left : (exclusive : Bool) → stale_ranges records file (cond exclusive (drop_first (is_range id span Exclusive) ranges) (drop_first (is_range id span Shared) ranges)) ≡ stale_ranges records file ranges
+  stale_left true = stale_dropped Exclusive
+  stale_left false = stale_dropped Shared
+
+  -- what doesn't count stays
+  pub stale_stay : stale_ranges records file (without_range id span ranges) ≡ stale_ranges records file ranges
+  stale_stay = stale_left (has_range id span Exclusive ranges)
+
+module _ (records : Records) (file : ℕ) (ranges : List RangeItem) (id : OpenId) (counts : id_counts records file id ≡ true) (span : Span) (f : FileView) (open_row : OpenRow) (asks : AsksBefore records file ranges id f open_row) where
   same_here : (mode : Mode) (r : RangeItem) → same_range (range_of open_row span mode) (range_row file r) ≡ is_range id span mode r
   same_here mode r =
       ap (λ b. b && (same_id r.id open_row.id && ((r.start == span.start) && ((r.length == span.length) && same_mode r.mode mode)))) (eq-eqb file open_row.file (sym asks.file_is))
       ∙ ap (λ x. same_id r.id x && ((r.start == span.start) && ((r.length == span.length) && same_mode r.mode mode))) asks.id_is
-
-  -- the ranges of an open that counts count
-  own_counts : (mode : Mode) (r : RangeItem) → is_range id span mode r ≡ true → range_counts records file r ≡ true
-  own_counts mode r e =
-      ap (id_counts records file) (same_id-eq r.id id (and_parts (same_id r.id id) ((r.start == span.start) && ((r.length == span.length) && same_mode r.mode mode)) e).0) ∙ asks.counts
 
   has_it : (mode : Mode) → list_any (same_range (range_of open_row span mode)) f.ranges ≡ has_range id span mode ranges
   has_it mode =
       ap (list_any (same_range (range_of open_row span mode))) asks.ranges_are
       ∙ any_in_map (range_row file) (same_range (range_of open_row span mode)) (filter (range_counts records file) ranges)
       ∙ any_alike (λ r. same_range (range_of open_row span mode) (range_row file r)) (is_range id span mode) (same_here mode) (filter (range_counts records file) ranges)
-      ∙ any_kept (is_range id span mode) (range_counts records file) (λ r. contrary (is_range id span mode r) (range_counts records file r) (own_counts mode r)) ranges
+      ∙ any_kept (is_range id span mode) (range_counts records file) (λ r. contrary (is_range id span mode r) (range_counts records file r) (own_counts records file ranges id counts span mode r)) ranges
 
   dropped : (mode : Mode) → counted_ranges records file (drop_first (is_range id span mode) ranges) ≡ drop_first (same_range (range_of open_row span mode)) f.ranges
   dropped mode =
-      ap (map (range_row file)) (filter-drop_first true (is_range id span mode) (range_counts records file) (own_counts mode) ranges)
+      ap (map (range_row file)) (filter-drop_first true (is_range id span mode) (range_counts records file) (own_counts records file ranges id counts span mode) ranges)
       ∙ sym (dropped_in_map (same_range (range_of open_row span mode)) (is_range id span mode) (range_row file) (same_here mode) (filter (range_counts records file) ranges))
       ∙ ap (drop_first (same_range (range_of open_row span mode))) (sym asks.ranges_are)
-
-  stale_dropped : (mode : Mode) → stale_ranges records file (drop_first (is_range id span mode) ranges) ≡ stale_ranges records file ranges
-  stale_dropped mode =
-      filter_dropped_out (is_range id span mode) (λ r. not (range_counts records file r)) (λ r e. ap not (own_counts mode r e)) ranges
 
   -- by whether there is an exclusive range, and whether there is a shared one
   abbrev deciding : Bool → Bool → Decision
@@ -119,23 +128,17 @@ module _ (records : Records) (file : ℕ) (ranges : List RangeItem) (id : OpenId
   leaves false true e = dropped Shared
   leaves false false e = ap (counted_ranges records file) (none_dropped (is_range id span Shared) ranges e) ∙ sym asks.ranges_are
 
-  stale_left : (exclusive : Bool) → stale_ranges records file (cond exclusive (drop_first (is_range id span Exclusive) ranges) (drop_first (is_range id span Shared) ranges)) ≡ stale_ranges records file ranges
-  stale_left true = stale_dropped Exclusive
-  stale_left false = stale_dropped Shared
-
   decided : deciding (has_range id span Exclusive ranges) (has_range id span Shared ranges) ≡ unlock_range f span open_row
   decided = sym (ap (λ b. deciding b (list_any (same_range (range_of open_row span Shared)) f.ranges)) (has_it Exclusive) ∙ ap (deciding (has_range id span Exclusive ranges)) (has_it Shared))
 
   pub record Unlocks : Type 0 where
     pub decision : told_unlocked open_row (has_range id span Exclusive ranges || has_range id span Shared ranges) ≡ without_changes (unlock_range f span open_row)
     pub ranges_are : counted_ranges records file (without_range id span ranges) ≡ ranges_with f (unlock_range f span open_row)
-    pub stale : stale_ranges records file (without_range id span ranges) ≡ stale_ranges records file ranges
 
   pub unlocks : Unlocks
   unlocks = record {
     decision = replies (has_range id span Exclusive ranges) (has_range id span Shared ranges) ∙ ap without_changes decided;
     ranges_are = leaves (has_range id span Exclusive ranges) (has_range id span Shared ranges) refl ∙ ap (ranges_with f) decided;
-    stale = stale_left (has_range id span Exclusive ranges);
   }
 
 -- ---- what the code leaves

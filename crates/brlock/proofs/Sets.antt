@@ -10,12 +10,12 @@ use Rattle.sid_core.specs.Values.{IsSpan}
 use Rattle.serial_table.specs.declared.rows.OpenRow.{OpenRow}
 use Rattle.serial_table.specs.File.{FileView}
 use Rattle.serial_table.specs.Lists.{drop_first}
-use Rattle.serial_table.specs.Range.{passes_end, range_of}
+use Rattle.serial_table.specs.Range.{passes_end}
 use Rattle.serial_table.proofs.Filters.{filter_one_out}
 use Rattle.serial_table.proofs.Counting.{length_pushed, length_dropped}
 use Rattle.record_codec.specs.declared.range_rec.RangeItem.{RangeItem}
 use Rattle.record_codec.specs.declared.range_rec.RangeRec.{RangeRec}
-use Rattle.record_codec.specs.Counts.{Records, range_counts}
+use Rattle.record_codec.specs.Counts.{Records, id_counts, range_counts}
 use Rattle.record_codec.specs.Fields.{IsOpenId, IsListOf}
 use Rattle.record_codec.specs.RangeRec.{IsRangeItem, IsRangeRec}
 use Rattle.brlock.specs.declared.answer.RAnswer.{RAnswer}
@@ -51,21 +51,19 @@ module _ {X : Type 0} where
   all_left P p [] all = tt
   all_left P p (x ∷ xs) all = left_here P (p x) x xs (drop_first p xs) all.0 all.1 (all_left P p xs all.1)
 
-module _ (records : Records) (file : ℕ) (valid : List OpenId) (rec : RangeRec) (id : OpenId) (f : FileView) (open_row : OpenRow) (asks : AsksAmong records file valid rec.ranges id f open_row) (span : Span) (mode : Mode) where
-  row_is : range_row file (asked_item id span mode) ≡ range_of open_row span mode
-  row_is = λ i. record { id = sym asks.before.id_is i; file = sym asks.before.file_is i; span = span; mode = mode }
-
-  pub come : (a : RAnswer) → counted_ranges records file (locked a id span mode rec).ranges ≡ ranges_after a f open_row span mode
-  come Granted =
-      ap (map (range_row file)) (one_in (range_counts records file) (asked_item id span mode) rec.ranges asks.before.counts)
+module _ (records : Records) (file : ℕ) (rec : RangeRec) (id : OpenId) (counts : id_counts records file id ≡ true) (span : Span) (mode : Mode) where
+  pub come : (valid : List OpenId) (f : FileView) (open_row : OpenRow) → AsksAmong records file valid rec.ranges id f open_row → (a : RAnswer)
+      → counted_ranges records file (locked a id span mode rec).ranges ≡ ranges_after a f open_row span mode
+  come valid f open_row asks Granted =
+      ap (map (range_row file)) (one_in (range_counts records file) (asked_item id span mode) rec.ranges counts)
       ∙ mapped_behind (range_row file) (filter (range_counts records file) rec.ranges) (asked_item id span mode)
-      ∙ (λ i. sym asks.before.ranges_are i ++ row_is i ∷ [])
-  come (Conflict other) = sym asks.before.ranges_are
-  come InvalidRange = sym asks.before.ranges_are
-  come OutOfMemory = sym asks.before.ranges_are
+      ∙ (λ i. sym asks.before.ranges_are i ++ record { id = sym asks.before.id_is i; file = sym asks.before.file_is i; span = span; mode = mode } ∷ [])
+  come valid f open_row asks (Conflict other) = sym asks.before.ranges_are
+  come valid f open_row asks InvalidRange = sym asks.before.ranges_are
+  come valid f open_row asks OutOfMemory = sym asks.before.ranges_are
 
   pub stale_stay : (a : RAnswer) → stale_ranges records file (locked a id span mode rec).ranges ≡ stale_ranges records file rec.ranges
-  stale_stay Granted = filter_one_out (λ range. not (range_counts records file range)) (asked_item id span mode) rec.ranges (ap not asks.before.counts)
+  stale_stay Granted = filter_one_out (λ range. not (range_counts records file range)) (asked_item id span mode) rec.ranges (ap not counts)
   stale_stay (Conflict other) = refl
   stale_stay InvalidRange = refl
   stale_stay OutOfMemory = refl

@@ -1,5 +1,5 @@
 -- When a table shows of a file the ranges of its record that count.
-use Rattle.std.specs.Prelude.{◌≡◌, ℕ, true, not, List, map, filter}
+use Rattle.std.specs.Prelude.{◌≡◌, ℕ, not, List, map, filter}
 use Rattle.std.specs.List.{list_any}
 use Rattle.sid_core.specs.declared.ids.OpenId.{OpenId}
 use Rattle.sid_core.specs.Ids.{same_id}
@@ -27,9 +27,8 @@ AreValid records file valid = (id : OpenId) → list_any (λ v. same_id v id) va
 abbrev pub valid_ids : Records → ℕ → ShareRec → List OpenId
 valid_ids records file share = map (λ entry. entry.id) (filter (entry_counts records file) share.entries)
 
--- The open is one of the file that counts, and calls before a table that has the ranges of the file that count.
+-- The open is one of the file, and calls before a table that has the ranges of the file that count.
 pub record AsksBefore (records : Records) (file : ℕ) (ranges : List RangeItem) (id : OpenId) (f : FileView) (open_row : OpenRow) : Type 0 where
-  pub counts : id_counts records file id ≡ true
   pub id_is : open_row.id ≡ id
   pub file_is : open_row.file ≡ file
   pub ranges_are : f.ranges ≡ counted_ranges records file ranges

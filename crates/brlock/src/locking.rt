@@ -5,7 +5,7 @@ ghost use Rattle.serial_table.specs.declared.decision.Caller.{Caller};
 ghost use Rattle.serial_table.specs.File.{FileView};
 ghost use Rattle.serial_table.specs.Range as table;
 ghost use Rattle.serial_table.specs.Lock.{lock_range};
-ghost use Rattle.record_codec.specs.Counts.{Records};
+ghost use Rattle.record_codec.specs.Counts.{Records, id_counts};
 ghost use Rattle.record_codec.specs.Fields.{IsOpenId};
 ghost use Rattle.record_codec.specs.RangeRec.{IsRangeRec};
 ghost use Rattle.brlock.specs.Ranges.{counted_ranges, stale_ranges, AsksAmong};
@@ -38,8 +38,8 @@ pub fn lock(rec: &mut RangeRec, valid: &[OpenId], id: OpenId, span: Span, mode: 
     ensures decision { IfAnswered result ((records : Records) (file : ℕ) (f : FileView) (caller : Caller) (wait : Bool) (open_row : OpenRow) → AsksAmong records file valid.now rec.old.ranges id f open_row → has open_row.access.0 0x3 ≡ true
         → told f caller span mode wait open_row result ≡ lock_range f caller span mode wait open_row) }
     ensures rec { rec.new ≡ locked result id span mode rec.old }
-    ensures ranges { (records : Records) (file : ℕ) (f : FileView) (open_row : OpenRow) → AsksAmong records file valid.now rec.old.ranges id f open_row → counted_ranges records file rec.new.ranges ≡ ranges_after result f open_row span mode }
-    ensures stale { (records : Records) (file : ℕ) (f : FileView) (open_row : OpenRow) → AsksAmong records file valid.now rec.old.ranges id f open_row → stale_ranges records file rec.new.ranges ≡ stale_ranges records file rec.old.ranges }
+    ensures ranges { (records : Records) (file : ℕ) (f : FileView) (open_row : OpenRow) → AsksAmong records file valid.now rec.old.ranges id f open_row → id_counts records file id ≡ true → counted_ranges records file rec.new.ranges ≡ ranges_after result f open_row span mode }
+    ensures stale { (records : Records) (file : ℕ) → id_counts records file id ≡ true → stale_ranges records file rec.new.ranges ≡ stale_ranges records file rec.old.ranges }
     ensures sets { IsRangeRec rec.old → IsOpenId id → length rec.old.ranges + 1 < 2 ^ 32 → IsRangeRec rec.new }
 {
     if passes_end(span) {

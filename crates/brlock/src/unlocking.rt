@@ -1,10 +1,10 @@
-ghost use Rattle.std.specs.Prelude.{◌≡◌, ℕ, []};
+ghost use Rattle.std.specs.Prelude.{◌≡◌, ℕ, true, []};
 ghost use Rattle.std.specs.List.{position};
 ghost use Rattle.serial_table.specs.declared.rows.OpenRow.{OpenRow};
 ghost use Rattle.serial_table.specs.File.{FileView};
 ghost use Rattle.serial_table.specs.Lists.{drop_first};
 ghost use Rattle.serial_table.specs.Unlock.{unlock_range};
-ghost use Rattle.record_codec.specs.Counts.{Records};
+ghost use Rattle.record_codec.specs.Counts.{Records, id_counts};
 ghost use Rattle.record_codec.specs.RangeRec.{IsRangeRec};
 ghost use Rattle.brlock.specs.Ranges.{counted_ranges, stale_ranges, AsksBefore};
 ghost use Rattle.brlock.specs.Answer.{without_changes, told_unlocked, is_range, has_range, without_range, ranges_with};
@@ -57,9 +57,9 @@ fn drop_first(list: &mut Items<RangeItem>, id: OpenId, span: Span, mode: Mode) -
 /// The open's first exclusive range with just this span goes, else its first shared one. True where it had one. Ranges of other opens
 /// stay, whether they count or not. Takes no memory.
 pub fn unlock(rec: &mut RangeRec, id: OpenId, span: Span) -> bool
-    ensures decision { (records : Records) (file : ℕ) (f : FileView) (open_row : OpenRow) → AsksBefore records file rec.old.ranges id f open_row → told_unlocked open_row result ≡ without_changes (unlock_range f span open_row) }
-    ensures ranges { (records : Records) (file : ℕ) (f : FileView) (open_row : OpenRow) → AsksBefore records file rec.old.ranges id f open_row → counted_ranges records file rec.new.ranges ≡ ranges_with f (unlock_range f span open_row) }
-    ensures stale { (records : Records) (file : ℕ) (f : FileView) (open_row : OpenRow) → AsksBefore records file rec.old.ranges id f open_row → stale_ranges records file rec.new.ranges ≡ stale_ranges records file rec.old.ranges }
+    ensures decision { (records : Records) (file : ℕ) (f : FileView) (open_row : OpenRow) → AsksBefore records file rec.old.ranges id f open_row → id_counts records file id ≡ true → told_unlocked open_row result ≡ without_changes (unlock_range f span open_row) }
+    ensures ranges { (records : Records) (file : ℕ) (f : FileView) (open_row : OpenRow) → AsksBefore records file rec.old.ranges id f open_row → id_counts records file id ≡ true → counted_ranges records file rec.new.ranges ≡ ranges_with f (unlock_range f span open_row) }
+    ensures stale { (records : Records) (file : ℕ) → id_counts records file id ≡ true → stale_ranges records file rec.new.ranges ≡ stale_ranges records file rec.old.ranges }
     ensures rec { rec.new ≡ record rec.old { ranges = without_range id span rec.old.ranges } }
     ensures sets { IsRangeRec rec.old → IsRangeRec rec.new }
 {

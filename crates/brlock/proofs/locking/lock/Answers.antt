@@ -37,12 +37,12 @@ returns-in-None-clause-decision c =
     c.add.result c.add.ensures.answer
 
 pub returns-in-None-clause-ranges : goal.returns-in-None-clause-ranges
-returns-in-None-clause-ranges c = λ records file f open_row asks.
-    ap (λ rec. counted_ranges records file rec.ranges) c.add.ensures.rec ∙ come records file c.args.valid.now c.args.rec.now c.args.id f open_row asks c.args.span c.args.mode c.add.result
+returns-in-None-clause-ranges c = λ records file f open_row asks counts.
+    ap (λ rec. counted_ranges records file rec.ranges) c.add.ensures.rec ∙ come records file c.args.rec.now c.args.id counts c.args.span c.args.mode c.args.valid.now f open_row asks c.add.result
 
 pub returns-in-None-clause-stale : goal.returns-in-None-clause-stale
-returns-in-None-clause-stale c = λ records file f open_row asks.
-    ap (λ rec. stale_ranges records file rec.ranges) c.add.ensures.rec ∙ stale_stay records file c.args.valid.now c.args.rec.now c.args.id f open_row asks c.args.span c.args.mode c.add.result
+returns-in-None-clause-stale c = λ records file counts.
+    ap (λ rec. stale_ranges records file rec.ranges) c.add.ensures.rec ∙ stale_stay records file c.args.rec.now c.args.id counts c.args.span c.args.mode c.add.result
 
 pub returns-in-None-clause-sets : goal.returns-in-None-clause-sets
 returns-in-None-clause-sets c = λ sets id_is few.
