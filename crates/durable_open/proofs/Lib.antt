@@ -1,0 +1,5 @@
+pub mod Loops
+pub mod Sets
+pub mod Named
+pub mod Sweeping
+pub mod Reconnects
