@@ -62,11 +62,11 @@ flat_joined f (x ∷ xs) ys = ap (λ zs. f x ++ zs) (flat_joined f xs ys) ∙ gr
     grouped [] b d = refl
     grouped (y ∷ a) b d = ap (λ zs. y ∷ zs) (grouped a b d)
 
-counts_before : (n : ℕ) (xs ys : List ℕ) → CountsFrom n (xs ++ ys) → CountsFrom n xs
+pub counts_before : (n : ℕ) (xs ys : List ℕ) → CountsFrom n (xs ++ ys) → CountsFrom n xs
 counts_before n [] ys h = tt
 counts_before n (x ∷ xs) ys h = (h.0, counts_before (n + 1) xs ys h.1)
 
-rises_before : (n : ℕ) (xs ys : List ℕ) → RisesAbove n (xs ++ ys) → RisesAbove n xs
+pub rises_before : (n : ℕ) (xs ys : List ℕ) → RisesAbove n (xs ++ ys) → RisesAbove n xs
 rises_before n [] ys h = tt
 rises_before n (x ∷ xs) ys h = (h.0, rises_before x xs ys h.1)
 

@@ -15,6 +15,7 @@ pub mod DeathEvents
 pub mod SessionEvents
 pub mod ScavengeEvents
 pub mod ReconnectEvents
+pub mod Recorded
 pub mod Stepping
 pub mod Touching
 pub mod Meets
