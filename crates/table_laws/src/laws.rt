@@ -1,8 +1,11 @@
 //! Laws of entries and of what they leave alone: each function does nothing, and its clause is the law.
 
-ghost use Rattle.std.specs.Prelude.{◌≡◌, ℕ, false, Bool, List};
+ghost use Rattle.std.specs.Prelude.{◌≡◌, ℕ, false, Bool, List, Option};
+ghost use Rattle.sid_core.specs.declared.bits.Access.{Access};
 ghost use Rattle.sid_core.specs.declared.bits.LeaseState.{LeaseState};
+ghost use Rattle.sid_core.specs.declared.bits.Share.{Share};
 ghost use Rattle.sid_core.specs.declared.call.Call.TheVariants as call;
+ghost use Rattle.sid_core.specs.declared.call.LeaseAsk.{LeaseAsk};
 ghost use Rattle.sid_core.specs.declared.call.Mode.{Mode};
 ghost use Rattle.sid_core.specs.declared.call.Span.{Span};
 ghost use Rattle.sid_core.specs.declared.call.Tables.{Tables};
@@ -65,6 +68,13 @@ pub fn calls_that_wait_keep_standing()
         → LegalKeepsStandingIfNew setup n before by seq number moment (call.GLock key mode wait) reply }
     ensures lock { (setup : Setup) (n : ℕ) (before : List Entry) (by seq number : ℕ) (moment : Moment) (handle : ℕ) (span : Span) (mode : Mode) (wait : Bool) (reply : Reply)
         → LegalKeepsStandingIfNew setup n before by seq number moment (call.Lock handle span mode wait) reply }
+{}
+
+/// What is written stands for the table afterwards, where no register record watches the call yet: `open`, which may wait. A lease of
+/// another file may expire before it: the opens that then go there count no longer in that file's records, which stay as they are.
+pub fn opens_keep_standing()
+    ensures { (setup : Setup) (n : ℕ) (before : List Entry) (by seq number : ℕ) (moment : Moment) (file : ℕ) (access : Access) (share : Share) (lease : Option LeaseAsk) (durable : ℕ) (overwrite delete : Bool) (reply : Reply)
+        → LegalKeepsStandingIfNew setup n before by seq number moment (call.OpenFile file access share lease durable overwrite delete) reply }
 {}
 
 /// What is written stands for the table afterwards: a tidied chain.

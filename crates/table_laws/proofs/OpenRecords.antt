@@ -1,0 +1,190 @@
+-- Open records where an open may come: the one that comes gets its record, and the others keep theirs.
+use Rattle.std.proofs.Common.{◌≡◌, ℕ, ◌^◌, Bool, true, false, cond, ◌&&◌, List, [], ◌∷◌, ◌++◌, Some, None, refl, sym, ap, ◌∙◌, subst, inl, inr, ◌⊎◌}
+use Rattle.std.specs.List.{list_all, AllByRecursion}
+use Rattle.std.specs.Option.{option_and_then}
+use Rattle.std.proofs.lemmas.Bool.{and_parts, and_from, lt-ltb, false_from_ne_true}
+use Rattle.byteorder.specs.Endian.{big_bytes, big_number}
+use Rattle.byteorder.specs.Numbers.{big_number-reads_back}
+use Rattle.sid_core.specs.declared.ids.OpenId.{OpenId}
+use Rattle.sid_core.specs.declared.setup.Setup.{Setup}
+use Rattle.sid_core.specs.Values.{IsU32}
+use Rattle.serial_table.specs.declared.rows.OpenRow.{OpenRow}
+use Rattle.serial_table.specs.declared.table.Table.{Table}
+use Rattle.serial_table.specs.declared.change.Change.{Change}
+use Rattle.serial_table.specs.declared.change.Change.TheVariants as c
+use Rattle.serial_table.specs.View.{view, is_of_file, has_id}
+use Rattle.serial_table.specs.Change.{perform, perform_all}
+use Rattle.serial_table.specs.InSets.{IsInSets, IsOpenRow}
+use Rattle.serial_table.specs.Sound.{IsSound}
+use Rattle.serial_table.proofs.SameIds.{same_id-eq, same_id-refl}
+use Rattle.serial_table.proofs.Members.{IsIn, all_of, all_by, in_filter, passes_in}
+use Rattle.chain_map.specs.declared.db.Db.TheVariants as db
+use Rattle.record_codec.specs.declared.open_rec.OpenRec.{OpenRec}
+use Rattle.stored_table.specs.Keys.{fitting, open_key, is_key}
+use Rattle.stored_table.specs.Places.{Place, place, same_place, among}
+use Rattle.stored_table.specs.Decoded.{AllRecords}
+use Rattle.stored_table.specs.Exact.{is_empty}
+use Rattle.stored_table.specs.Move.{AddedOpen, added_for}
+use Rattle.stored_table.specs.Moved.{if_still_open, moved_open, moved}
+use Rattle.stored_table.specs.Stands.{AgreeWith, HasOpenRecords}
+use Rattle.stored_table.proofs.Bridging.{are_bytes, bytes_append}
+use Rattle.stored_table.proofs.Writing.{place_is, same_itself}
+use Rattle.table_laws.proofs.Exactly.{in_opens}
+use Rattle.table_laws.proofs.Stepping.{either_of}
+use Rattle.table_laws.proofs.Touching.{touches, IsAdded, open_before}
+use Rattle.table_laws.proofs.Chains.{old_opens}
+
+-- ---- opens that come
+
+-- what an added open passes, it passes by itself
+added_passes : (p : Change → Bool) (change : Change) (o : OpenRow) → IsAdded o change → p change ≡ true → p (c.AddOpen o) ≡ true
+added_passes p (c.AddOpen row) o e h = ap (λ x. p (c.AddOpen x)) (sym e) ∙ h
+added_passes p (c.DropOpen f id) o e h = absurd e
+added_passes p (c.TakeOver f id owner handle) o e h = absurd e
+added_passes p (c.AddLease lease) o e h = absurd e
+added_passes p (c.SetLease f name held breaking) o e h = absurd e
+added_passes p (c.Acknowledge f name state) o e h = absurd e
+added_passes p (c.AddRange range) o e h = absurd e
+added_passes p (c.DropRange range) o e h = absurd e
+added_passes p (c.AddPending f) o e h = absurd e
+added_passes p (c.DropPending f) o e h = absurd e
+added_passes p (c.AddHold hold) o e h = absurd e
+added_passes p (c.SetHold key owner mode) o e h = absurd e
+added_passes p (c.DropHold key owner) o e h = absurd e
+added_passes p (c.AddWaiter x) o e h = absurd e
+added_passes p (c.DropWaiter sid call) o e h = absurd e
+added_passes p (c.Send post) o e h = absurd e
+added_passes p (c.TakeLetter to) o e h = absurd e
+added_passes p (c.EndSession sid moment) o e h = absurd e
+added_passes p (c.NextSession sid moment) o e h = absurd e
+added_passes p c.Settle o e h = absurd e
+
+-- Behind changes that pass, an open was there before, or it passes.
+pub opens_from : (p : Change → Bool) (here : ℕ → Bool) (cs : List Change) (t : Table) (o : OpenRow) → list_all p cs ≡ true → list_all (touches here) cs ≡ true → IsIn o (perform_all cs t).opens
+    → IsIn o t.opens ⊎ (p (c.AddOpen o) ≡ true)
+opens_from p here [] t o e h i = inl i
+opens_from p here (change ∷ cs) t o e h i =
+    let a = and_parts (p change) (list_all p cs) e in
+    let b = and_parts (touches here change) (list_all (touches here) cs) h in
+    one a.0 b.0 (opens_from p here cs (perform change t) o a.1 b.1 i)
+  where
+    last : p change ≡ true → IsIn o t.opens ⊎ IsAdded o change → IsIn o t.opens ⊎ (p (c.AddOpen o) ≡ true)
+    last e (inl k) = inl k
+    last e (inr k) = inr (added_passes p change o k e)
+
+    one : p change ≡ true → touches here change ≡ true → IsIn o (perform change t).opens ⊎ (p (c.AddOpen o) ≡ true) → IsIn o t.opens ⊎ (p (c.AddOpen o) ≡ true)
+    one e h (inl k) = last e (open_before here change t o h k)
+    one e h (inr k) = inr k
+
+-- ---- keys of open records
+
+open_key_is : (pid number : ℕ) → IsU32 pid → IsU32 number → open_key pid number ≡ big_bytes 4 pid ++ big_bytes 4 number
+open_key_is pid number p n = ap (λ b. fitting b (big_bytes 4 pid ++ big_bytes 4 number)) (and_from _ _ (lt-ltb pid (2 ^ 32) p) (lt-ltb number (2 ^ 32) n))
+
+is_open_key : (pid number : ℕ) → IsU32 pid → IsU32 number → is_key db.Opens (open_key pid number) ≡ true
+is_open_key pid number p n = ap (is_key db.Opens) (open_key_is pid number p n) ∙ bytes_append (big_bytes 4 pid) (big_bytes 4 number) (are_bytes 4 pid) (are_bytes 4 number)
+
+-- it says what it was made of
+key_pid : (pid number : ℕ) → IsU32 pid → IsU32 number → big_number 4 (open_key pid number) ≡ pid
+key_pid pid number p n = ap (big_number 4) (open_key_is pid number p n) ∙ big_number-reads_back 4 pid (big_bytes 4 number) p
+
+key_number : (pid number : ℕ) → IsU32 pid → IsU32 number → big_number 4 (Rattle.std.specs.Prelude.drop 4 (open_key pid number)) ≡ number
+key_number pid number p n = ap (λ key. big_number 4 (Rattle.std.specs.Prelude.drop 4 key)) (open_key_is pid number p n) ∙ big_number-reads_back 4 number [] n
+
+same_open_key : (pid number x y : ℕ) → IsU32 pid → IsU32 number → IsU32 x → IsU32 y → same_place (place db.Opens (open_key pid number)) (place db.Opens (open_key x y)) ≡ true → (x ≡ pid) × (y ≡ number)
+same_open_key pid number x y p n a b e =
+    let same : open_key pid number ≡ open_key x y = ap (λ (q : Place). q.key) (place_is (place db.Opens (open_key pid number)) (place db.Opens (open_key x y)) e) in (
+      sym (key_pid x y a b) ∙ ap (big_number 4) (sym same) ∙ key_pid pid number p n,
+      sym (key_number x y a b) ∙ ap (λ key. big_number 4 (Rattle.std.specs.Prelude.drop 4 key)) (sym same) ∙ key_number pid number p n,
+    )
+
+-- ---- the open of a call
+
+-- it is of this call, and of this file
+pub record IsOwnOpen (pid number file : ℕ) (o : OpenRow) : Type 0 where
+  pub id : o.id ≡ record { pid = pid; call = number }
+  pub owner : o.owner.pid ≡ pid
+  pub handle : o.handle ≡ number
+  pub file_is : o.file ≡ file
+
+-- some open has the id of an open
+is_there : (u : Table) (o : OpenRow) → IsIn o u.opens → is_empty ((view u).opens_of_id o.id) ≡ false
+is_there u o i = not_empty ((view u).opens_of_id o.id) (passes_in (has_id o.id) u.opens o i (same_id-refl o.id))
+  where
+    not_empty : (xs : List OpenRow) → IsIn o xs → is_empty xs ≡ false
+    not_empty [] i = absurd i
+    not_empty (x ∷ xs) i = refl
+
+-- No open has the call's number in its id or as its handle.
+pub record IsNewNumber (pid number : ℕ) (t : Table) : Type 0 where
+  pub ids : (o : OpenRow) → IsIn o t.opens → o.id.pid ≡ pid → o.id.call ≡ number → ⊥
+  pub handles : (o : OpenRow) → IsIn o t.opens → o.owner.pid ≡ pid → o.handle ≡ number → ⊥
+
+module _ (setup : Setup) (ps : List Place) (s : AllRecords) (t u : Table) (agree : AgreeWith setup s (view t)) (sound : IsSound t) (sets : IsInSets setup t)
+    (pid number file : ℕ) (small_pid : IsU32 pid) (small_number : IsU32 number) (met : among (place db.Opens (open_key pid number)) ps ≡ true) (new : IsNewNumber pid number t)
+    (from : (o : OpenRow) → IsIn o u.opens → IsIn o t.opens ⊎ IsOwnOpen pid number file o) where
+  abbrev id : OpenId
+  id = record { pid = pid; call = number }
+
+  abbrev own_added : OpenRow → AddedOpen
+  own_added first = record { key = open_key pid number; value = record { id = first.id; file = first.file } }
+
+  module _ (first : OpenRow) (own : IsOwnOpen pid number file first) where
+    abbrev after_it : AllRecords
+    after_it = moved setup ps (Some (own_added first)) (view u) s
+
+    -- the record of the call's open
+    own_record : (o : OpenRow) → IsOwnOpen pid number file o → (x y : ℕ) → x ≡ pid → y ≡ number → after_it.opens x y ≡ Some (record { id = o.id; file = o.file })
+    own_record o is x y ex ey =
+        (λ i. after_it.opens (ex i) (ey i))
+        ∙ ap (λ b. cond b (moved_open (view u) (Some (own_added first)) (place db.Opens (open_key pid number)) (s.opens pid number)) (s.opens pid number)) met
+        ∙ ap (λ b. cond b (Some (own_added first).value) (option_and_then (if_still_open (view u)) (s.opens pid number)))
+        (and_from (is_key db.Opens (open_key pid number)) _ (is_open_key pid number small_pid small_number) (same_itself (place db.Opens (open_key pid number))))
+        ∙ (λ i. Some (record { id = (own.id ∙ sym is.id) i; file = (own.file_is ∙ sym is.file_is) i }))
+
+    -- that of another open stays
+    other_record : (o : OpenRow) → IsIn o u.opens → (x y : ℕ) → IsU32 x → IsU32 y → (x ≡ pid → y ≡ number → ⊥) → s.opens x y ≡ Some (record { id = o.id; file = o.file }) → after_it.opens x y ≡ Some (record { id = o.id; file = o.file })
+    other_record o i x y small_x small_y apart is =
+        let r : OpenRec = record { id = o.id; file = o.file } in
+        let p = place db.Opens (open_key x y) in
+        either_of (λ z. z) (among p ps) (moved_open (view u) (Some (own_added first)) p (s.opens x y)) (s.opens x y) (Some r)
+        (ap (λ b. cond b (Some (own_added first).value) (option_and_then (if_still_open (view u)) (s.opens x y)))
+        (false_from_ne_true (is_key db.Opens (open_key pid number) && same_place (place db.Opens (open_key pid number)) p) (λ e.
+        let same = same_open_key pid number x y small_pid small_number small_x small_y (and_parts (is_key db.Opens (open_key pid number)) _ e).1 in apart same.0 same.1))
+        ∙ ap (option_and_then (if_still_open (view u))) is ∙ ap (λ b. cond b None (Some r)) (is_there u o i))
+        (λ unmet. is)
+
+    one_open : (o : OpenRow) → IsIn o u.opens → IsIn o t.opens ⊎ IsOwnOpen pid number file o → HasOpenRecords after_it o
+    one_open o i (inr is) = record {
+      by_id = own_record o is o.id.pid o.id.call (ap (λ (x : OpenId). x.pid) is.id) (ap (λ (x : OpenId). x.call) is.id);
+      by_handle = own_record o is o.owner.pid o.handle is.owner is.handle;
+    }
+    one_open o i (inl j) =
+        let old = all_of (HasOpenRecords s) ((view t).opens_of o.file) (agree.opens o.file) o (in_opens t sound o j) in
+        let row : IsOpenRow setup o = all_of (IsOpenRow setup) t.opens sets.opens o j in
+        record {
+          by_id = other_record o i o.id.pid o.id.call row.id.pid.number row.id.call (new.ids o j) old.by_id;
+          by_handle = other_record o i o.owner.pid o.handle row.owner.pid.number row.handle (new.handles o j) old.by_handle;
+        }
+
+    own_opens : (g : ℕ) → AllByRecursion (HasOpenRecords after_it) ((view u).opens_of g)
+    own_opens g = all_by (HasOpenRecords after_it) ((view u).opens_of g) (λ o i. let k = in_filter (is_of_file g) u.opens o i in one_open o k.0 (from o k.0))
+
+  -- where the first open of the id is added, if there is one
+  by_opens : (os : List OpenRow) → (view u).opens_of_id id ≡ os → (g : ℕ) → AllByRecursion (HasOpenRecords (moved setup ps (added_for (open_key pid number) os) (view u) s)) ((view u).opens_of g)
+  by_opens [] none g = old_opens setup ps s t u agree sound (λ o i. was o i (from o i)) g
+    where
+      was : (o : OpenRow) → IsIn o u.opens → IsIn o t.opens ⊎ IsOwnOpen pid number file o → IsIn o t.opens
+      was o i (inl j) = j
+      was o i (inr is) = absurd (subst (IsIn o) none (passes_in (has_id id) u.opens o i (ap (λ x. Rattle.sid_core.specs.Ids.same_id x id) is.id ∙ same_id-refl id)))
+  by_opens (first ∷ others) some g = own_opens first (own (from first at.0)) g
+    where
+      at : IsIn first u.opens × (has_id id first ≡ true)
+      at = in_filter (has_id id) u.opens first (subst (IsIn first) (sym some) (inl refl))
+
+      own : IsIn first t.opens ⊎ IsOwnOpen pid number file first → IsOwnOpen pid number file first
+      own (inl j) = let e = same_id-eq first.id id at.1 in absurd (new.ids first j (ap (λ (x : OpenId). x.pid) e) (ap (λ (x : OpenId). x.call) e))
+      own (inr is) = is
+
+  pub added_opens : (g : ℕ) → AllByRecursion (HasOpenRecords (moved setup ps (added_for (open_key pid number) ((view u).opens_of_id id)) (view u) s)) ((view u).opens_of g)
+  added_opens g = by_opens ((view u).opens_of_id id) refl g
