@@ -35,3 +35,5 @@ pub mod SessionEvents
 pub mod ScavengeEvents
 pub mod ReconnectEvents
 pub mod Recorded
+pub mod FirstRecords
+pub mod HistoryEvents
