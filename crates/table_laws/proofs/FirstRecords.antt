@@ -1,6 +1,5 @@
 -- The first records name no session that a worker hasn't had, and no call.
-use Rattle.std.proofs.Common.{◌≡◌, ℕ, ◌*◌, ◌≤◌, Bool, true, false, cond, List, [], ◌∷◌, replicate, Option, Some, None, refl, sym, ap, ◌∙◌, subst}
-use Rattle.std.specs.Prelude.{IfSome}
+use Rattle.std.proofs.Common.{◌≡◌, ℕ, ◌*◌, ◌≤◌, Bool, true, false, cond, [], replicate, Option, Some, None, refl, sym, ap, ◌∙◌, subst}
 use Rattle.std.specs.Option.{option_map, option_and_then}
 use Rattle.std.proofs.lemmas.List.{get_or-replicate, length-replicate}
 use Rattle.sid_core.specs.declared.ids.Sid.{Sid}
@@ -10,7 +9,7 @@ use Rattle.sid_core.specs.Setup.{IsSetup}
 use Rattle.serial_table.specs.declared.rows.WorkerRow.{WorkerRow}
 use Rattle.serial_table.specs.ByNumber.{declared_at}
 use Rattle.serial_table.specs.View.{View, view}
-use Rattle.serial_table.specs.History.{start, after, IsLegal}
+use Rattle.serial_table.specs.History.{start}
 use Rattle.serial_table.proofs.Members.{IsIn}
 use Rattle.chain_map.specs.declared.db.Db.TheVariants as db
 use Rattle.chain_map.specs.Pairs as pairs
@@ -22,10 +21,10 @@ use Rattle.record_codec.specs.ShareRec.{share_rec}
 use Rattle.record_codec.specs.LeaseRec.{lease_rec}
 use Rattle.record_codec.specs.RegisterRec.{register_rec}
 use Rattle.record_codec.proofs.RegisterExact.{register_exact}
-use Rattle.stored_table.specs.Keys.{lock_key, name_key, file_key, pid_key, pid_in, file_in, lock_in, name_in, is_key}
-use Rattle.stored_table.specs.Places.{Chains, Place, place, among, value_at, HasChains, chain_of}
+use Rattle.stored_table.specs.Keys.{lock_key, name_key, file_key, pid_key, pid_in, file_in, is_key}
+use Rattle.stored_table.specs.Places.{Chains, Place, place, among, value_at, chain_of}
 use Rattle.stored_table.specs.Decoded.{decoded, records_of}
-use Rattle.stored_table.specs.Exact.{spelled, always, share_version, share_of, exact_share, register_record, exact_register, exact_at}
+use Rattle.stored_table.specs.Exact.{spelled, always, share_version, share_of, register_record, exact_register, exact_at}
 use Rattle.stored_table.specs.Move.{first_chains, worker_places}
 use Rattle.stored_table.specs.Shown.{part_of}
 use Rattle.stored_table.proofs.Bridging.{decoded_spelled}

@@ -1,6 +1,5 @@
 -- What a history makes of chains stands for its table: entry by entry, with what the records name.
-use Rattle.std.proofs.Common.{◌≡◌, ℕ, ◌<◌, ◌≤◌, Bool, true, false, ◌==◌, ◌&&◌, List, [], ◌∷◌, ◌++◌, Option, Some, None, refl, sym, ap, ◌∙◌, subst, arith}
-use Rattle.std.specs.List.{AllByRecursion}
+use Rattle.std.proofs.Common.{◌≡◌, ℕ, ◌<◌, ◌≤◌, true, ◌==◌, ◌&&◌, List, [], ◌∷◌, ◌++◌, Some, refl, sym, ap, ◌∙◌, subst, arith}
 use Rattle.std.proofs.lemmas.Bool.{and_parts, eqb-true, false_from_ne_true}
 use Rattle.sid_core.specs.declared.call.Call.TheVariants as call
 use Rattle.sid_core.specs.declared.entry.Entry.{Entry}
@@ -16,24 +15,21 @@ use Rattle.sid_core.specs.Counting.{CountsFrom, RisesAbove}
 use Rattle.sid_core.specs.Ids.{same_sid}
 use Rattle.serial_table.specs.declared.table.Table.{Table}
 use Rattle.serial_table.specs.declared.decision.Caller.{Caller}
-use Rattle.serial_table.specs.View.{View, view}
-use Rattle.serial_table.specs.Change.{perform_all}
+use Rattle.serial_table.specs.View.{view}
 use Rattle.serial_table.specs.Step.{caller_of, changes_of}
-use Rattle.serial_table.specs.History.{start, after, after_all, after_entry, AreLegal, IsLegal, own_seq, seqs_of, own_number, numbers_of}
+use Rattle.serial_table.specs.History.{start, after, after_entry, AreLegal, IsLegal, own_seq, seqs_of, own_number, numbers_of}
 use Rattle.serial_table.specs.Sound.{has_had}
 use Rattle.serial_table.proofs.Alike.{after_all-append}
-use Rattle.serial_table.proofs.Along.{raised_more, Rises, rises_at, KeptByExpiry, KeptByCalls, KeptByDeaths, along_before, legal_before}
+use Rattle.serial_table.proofs.Along.{raised_more, Rises, rises_at, KeptByCalls, along_before, legal_before}
 use Rattle.serial_table.proofs.Callers.{is_caller_of}
-use Rattle.serial_table.proofs.Members.{IsIn, all_by}
+use Rattle.serial_table.proofs.Members.{all_by}
 use Rattle.serial_table.proofs.Names.{same_sid-eq}
 use Rattle.serial_table.proofs.Soundness.{IsReached, expiries_reach, calls_reach, deaths_reach, start_reached}
-use Rattle.record_codec.specs.declared.watch.WatchRec.{WatchRec}
 use Rattle.record_codec.specs.declared.register_rec.RegisterRec.{RegisterRec}
 use Rattle.stored_table.specs.Places.{Chains}
-use Rattle.stored_table.specs.Decoded.{AllRecords, records_of}
+use Rattle.stored_table.specs.Decoded.{records_of}
 use Rattle.stored_table.specs.Histories.{moved_from, moved_by}
 use Rattle.stored_table.specs.Move.{added, move, places_written, first_chains}
-use Rattle.stored_table.specs.Moved.{moved}
 use Rattle.stored_table.specs.Shown.{part_of}
 use Rattle.stored_table.specs.Stands.{IsWellFormed, StandsFor}
 use Rattle.stored_table.proofs.Keeping.{well_formed-move}
@@ -42,7 +38,7 @@ use Rattle.stored_table.proofs.Starting.{first_chains_stand}
 use Rattle.stored_table.proofs.Whole.{records_moved}
 use Rattle.table_laws.specs.Standing.{IsUnwatched, IsUnnamed, next_sid, call_entry, HistoryStands, NameNothingNew}
 use Rattle.table_laws.proofs.Lists.{append_nothing}
-use Rattle.table_laws.proofs.Chains.{IsFine, legal_is_fine, flat_joined, counts_before, rises_before}
+use Rattle.table_laws.proofs.Chains.{legal_is_fine, flat_joined, counts_before, rises_before}
 use Rattle.table_laws.proofs.Recorded.{IsRecorded, had_perform_all, recorded_after}
 use Rattle.table_laws.proofs.FirstRecords.{first_recorded}
 use Rattle.table_laws.proofs.HandleEvents.{close_stands, delete_stands, unlock_stands, read_stands}

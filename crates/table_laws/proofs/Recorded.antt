@@ -1,8 +1,7 @@
 -- What records name along a history: sessions that their workers have had, and in register records calls that were made.
-use Rattle.std.proofs.Common.{◌≡◌, ℕ, ◌*◌, ◌≤◌, Bool, true, false, cond, ◌==◌, ◌&&◌, List, [], ◌∷◌, map, filter, find, replicate, Option, Some, None, refl, sym, ap, ◌∙◌, subst, inl, inr, arith}
-use Rattle.std.specs.Prelude.{IfSome}
+use Rattle.std.proofs.Common.{◌≡◌, ℕ, ◌≤◌, Bool, true, false, cond, List, [], ◌∷◌, map, filter, Option, Some, None, refl, sym, ap, ◌∙◌, subst, arith}
 use Rattle.std.specs.List.{AllByRecursion}
-use Rattle.std.specs.Option.{option_map, option_map_or, option_and_then}
+use Rattle.std.specs.Option.{option_map, option_and_then}
 use Rattle.std.proofs.lemmas.Bool.{both_ways, false_from_ne_true}
 use Rattle.sid_core.specs.declared.ids.LeaseName.{LeaseName}
 use Rattle.sid_core.specs.declared.ids.Sid.{Sid}
@@ -12,7 +11,6 @@ use Rattle.sid_core.specs.Ids.{same_sid}
 use Rattle.serial_table.specs.declared.rows.OpenRow.{OpenRow}
 use Rattle.serial_table.specs.declared.rows.LeaseRow.{LeaseRow}
 use Rattle.serial_table.specs.declared.rows.HoldRow.{HoldRow}
-use Rattle.serial_table.specs.declared.rows.WaiterRow.{WaiterRow}
 use Rattle.serial_table.specs.declared.rows.WorkerRow.{WorkerRow}
 use Rattle.serial_table.specs.declared.table.Table.{Table}
 use Rattle.serial_table.specs.declared.change.Change.{Change}
@@ -21,7 +19,6 @@ use Rattle.serial_table.specs.ByNumber.{declared_at}
 use Rattle.serial_table.specs.View as table
 use Rattle.serial_table.specs.View.{View, view, is_of_file, is_hold_of, carries, waits_behind, watch_behind}
 use Rattle.serial_table.specs.Change.{perform, perform_all}
-use Rattle.serial_table.specs.History.{start}
 use Rattle.serial_table.specs.Sound.{IsConsistent, has_had}
 use Rattle.serial_table.proofs.Names.{same_sid-eq}
 use Rattle.serial_table.proofs.Living.{had_among, lives_had, had-end_session, had-begin_session}
@@ -38,7 +35,7 @@ use Rattle.record_codec.specs.declared.lease_rec.LeaseRec.{LeaseRec}
 use Rattle.record_codec.specs.declared.register_rec.RegisterRec.{RegisterRec}
 use Rattle.stored_table.specs.Places.{Place, among}
 use Rattle.stored_table.specs.Decoded.{AllRecords}
-use Rattle.stored_table.specs.Exact.{unless_both_empty, entry_of, ref_of, hold_of, watch_of, share_of, exact_share, exact_lock, lease_with, lease_record, opens_under, lease_of, exact_lease, register_record, exact_register}
+use Rattle.stored_table.specs.Exact.{entry_of, ref_of, hold_of, watch_of, share_of, exact_share, exact_lock, lease_record, opens_under, lease_of, exact_lease, register_record, exact_register}
 use Rattle.stored_table.specs.Move.{AddedOpen}
 use Rattle.stored_table.specs.Moved.{moved}
 use Rattle.stored_table.specs.Shown.{part_of}
