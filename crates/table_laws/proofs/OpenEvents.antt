@@ -51,8 +51,9 @@ use Rattle.serial_table.specs.Decide.{decide, outcome}
 use Rattle.serial_table.specs.Expire.{carried_by, asked_names, look, due, is_due, expired_by}
 use Rattle.serial_table.specs.History.{start, after, IsLegal, IsLegalCall}
 use Rattle.serial_table.specs.Step.{caller_of, declared_at}
-use Rattle.serial_table.specs.Sound.{IsSound}
+use Rattle.serial_table.specs.Sound.{AreBelow, IsSound}
 use Rattle.serial_table.specs.InSets.{IsInSets}
+use Rattle.serial_table.proofs.Entries.{call_is_new}
 use Rattle.serial_table.proofs.Living.{lives_among}
 use Rattle.serial_table.proofs.SameIds.{same_id-eq, same_name-eq}
 use Rattle.serial_table.proofs.Members.{IsIn, in_append, in_filter, in_flat_map, in_map, passes_in, some_same}
@@ -85,7 +86,8 @@ use Rattle.table_laws.proofs.Touching.{touches, reaches, meets_name, contained}
 use Rattle.table_laws.proofs.Deciding.{adds_no_waiter, watch_before, AreContained, AreWatchersMet, IsContained, reply_contained, concluded}
 use Rattle.table_laws.proofs.Breaking.{AreBreaks, OwnersHave, no_breaks, both_breaks, each_breaks, open_in, breaks_touch, breaks_reach, breaks_wait, breaks_open}
 use Rattle.table_laws.proofs.Chains.{IsFine, legal_is_fine, legal_start, adds_no_open, old_opens, chains_stand_less}
-use Rattle.table_laws.proofs.OpenRecords.{IsOwnOpen, IsNewNumber, opens_from, added_opens}
+use Rattle.table_laws.proofs.AddedOpens.{IsNewNumber, new_above}
+use Rattle.table_laws.proofs.OpenRecords.{IsOwnOpen, opens_from, added_opens}
 use Rattle.table_laws.proofs.Calls.{once_in, carried_in, after_call}
 use Rattle.table_laws.proofs.HandleEvents.{entry}
 use Rattle.table_laws.proofs.LockEvents.{after_own_waits}
@@ -525,21 +527,6 @@ module _ (setup : Setup) (n : ℕ) (is : IsSetup setup) (before : List Entry) (b
     small_number : IsU32 number
     small_number = let most : number ≤ 20000 = call_at.numbered.1 in omega arith
 
-    -- its number is above those of the worker's calls before
-    new_number : (info : WorkerInfo) → declared_at setup.workers by ≡ Some info → IsNewNumber info.pid number t
-    new_number info declared =
-        let goes = along_before setup is IsReached (expiries_reach setup) (calls_reach setup) (deaths_reach setup) (λ pid. 0) (start setup) before (open_entry ∷ []) (start_reached setup is)
-        (legal_start setup before open_entry legal).entries (λ worker info d. legal.rising worker) in
-        let above : goes.0 info.pid < number = rises_at (goes.0 info.pid) by number [] (by == by) refl (goes.2 by info declared) in
-        record {
-          ids = λ o i p e.
-              let few : o.id.call ≤ goes.0 o.id.pid = (goes.1.numbered.opens o i).id in
-              let same : goes.0 o.id.pid ≡ goes.0 info.pid = ap goes.0 p in absurd (omega (arith, few, same, above, e));
-          handles = λ o i p e.
-              let few : o.handle ≤ goes.0 o.owner.pid = (goes.1.numbered.opens o i).handle in
-              let same : goes.0 o.owner.pid ≡ goes.0 info.pid = ap goes.0 p in absurd (omega (arith, few, same, above, e));
-        }
-
     module _ (caller : Caller) (from : caller_of setup (view t) by number moment ≡ Some caller) (k : Chains) (stands : StandsFor setup n k (view t)) (fresh : IsUnwatched setup n k caller.sid caller.number) where
       of : IsCallerOf setup t by number moment caller
       of = is_caller_of setup t by number moment caller from
@@ -582,7 +569,7 @@ module _ (setup : Setup) (n : ℕ) (is : IsSetup setup) (before : List Entry) (b
       records_then g =
           let first = added_for (open_key of.info.pid number) ((view u).opens_of_id (record { pid = of.info.pid; call = number })) in
           let all = open_records setup ps (records_of setup n k) t u of.info.pid number file (record { agree = stands.agree; sound = fine.sound; sets = fine.sets }) small_pid small_number
-          (own_record_met setup n k t stands fine settled caller of.info of.pid of.guid_is number of.number_is file lease) (new_number of.info of.declared) (is_grant (decide setup (view b) caller opening).reply)
+          (own_record_met setup n k t stands fine settled caller of.info of.pid of.guid_is number of.number_is file lease) (new_above of.info.pid number t (subst (λ p. AreBelow number p t) of.pid (call_is_new setup before [] by seq number moment opening reply caller is legal from))) (is_grant (decide setup (view b) caller opening).reply)
           (opens_then setup n k t stands fine settled caller of.info of.pid of.guid_is number of.number_is file lease access share durable overwrite delete fresh fine_after.sound) g in
           subst (λ qs. AllByRecursion (HasOpenRecords (moved setup qs (added setup (view u) open_entry) (view u) (records_of setup n k))) ((view u).opens_of g)) (sym writes)
           (subst (λ a. AllByRecursion (HasOpenRecords (moved setup ps a (view u) (records_of setup n k))) ((view u).opens_of g))
