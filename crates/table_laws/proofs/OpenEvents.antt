@@ -3,7 +3,7 @@
 -- The file's records, those of its leases and of the asked one, the caller's own, and those of the owners and watchers of all these are
 -- written whatever the call decides. All that it decides stays there. What expires before may be the asked lease of another file: that
 -- file's own records aren't written, and its disconnected opens under the lease then count no longer.
-use Rattle.std.proofs.Common.{◌≡◌, ℕ, ◌<◌, ◌≤◌, Bool, true, false, cond, not, ◌==◌, ◌&&◌, List, [], ◌∷◌, ◌++◌, filter, Option, Some, None, refl, sym, ap, ◌∙◌, subst, inl, inr, ◌⊎◌, arith}
+use Rattle.std.proofs.Common.{◌≡◌, ℕ, ◌<◌, ◌≤◌, Bool, true, false, cond, not, ◌==◌, ◌&&◌, List, [], ◌∷◌, ◌++◌, filter, Option, Some, None, refl, sym, ap, ◌∙◌, subst, inl, inr, ◌⊎◌, arith, map}
 use Rattle.std.specs.Prelude.{IfSome}
 use Rattle.std.specs.List.{list_any, list_all, AllByRecursion, flat_map}
 use Rattle.std.specs.Option.{option_map, option_map_or, option_and_then}
@@ -48,10 +48,10 @@ use Rattle.serial_table.specs.Grant.{grant_lease, is_durable, new_open, grant_pl
 use Rattle.serial_table.specs.Open.{handle_breaks, other_breaks, wait_for_open, wait_or_grant, go_on, open_by, open_file}
 use Rattle.serial_table.specs.Decision.{Outcome, only_reply, spots_of, no_longer_waits, conclude}
 use Rattle.serial_table.specs.Decide.{decide, outcome}
-use Rattle.serial_table.specs.Expire.{carried_by, asked_names, look, due, is_due, expired_by}
+use Rattle.serial_table.specs.Expire.{carried_by, asked_names, look, due, is_due, expires, then_settles, expired_by}
 use Rattle.serial_table.specs.History.{start, after, IsLegal, IsLegalCall}
 use Rattle.serial_table.specs.Step.{caller_of, declared_at}
-use Rattle.serial_table.specs.Sound.{AreBelow, IsSound}
+use Rattle.serial_table.specs.Sound.{AllFit, AreBelow, IsSound}
 use Rattle.serial_table.specs.InSets.{IsInSets}
 use Rattle.serial_table.proofs.Entries.{call_is_new}
 use Rattle.serial_table.proofs.Living.{lives_among}
@@ -278,6 +278,10 @@ module _ (setup : Setup) (n : ℕ) (k : Chains) (t : Table) (stands : StandsFor 
     unfolding expired_by
     behind_is = settles_to rows t settled
 
+    rows_fit : AllFit (then_settles (map expires rows)) t
+    unfolding expired_by
+    rows_fit = expired_fits setup t caller which fine.sound.rows
+
     pub behind_settled : settle behind ≡ behind
     behind_settled = expired_settled setup t caller which settled
 
@@ -287,7 +291,7 @@ module _ (setup : Setup) (n : ℕ) (k : Chains) (t : Table) (stands : StandsFor 
     pub behind_fades : Fades open_places t behind
     behind_fades =
         subst (Fades open_places t) (sym behind_is)
-        (fades t fine.sound settled rows (λ l i. (due_there t caller.moment (look setup (view t) caller which) l i).0) (subst IsSound behind_is behind_sound) open_places row_met)
+        (fades t fine.sound settled rows (λ l i. (due_there t caller.moment (look setup (view t) caller which) l i).0) rows_fit (subst IsSound behind_is behind_sound) open_places row_met)
 
     watch_was : (spot : Spot) (y : Watch) → IsIn y ((view behind).watches_on spot) → IsIn y ((view t).watches_on spot)
     watch_was spot y i = watch_before (expired_by setup (view t) caller which) t spot y (expired_all adds_no_waiter (λ l. refl) refl setup (view t) caller which) i
