@@ -3,31 +3,28 @@
 use Rattle.std.proofs.Common.{◌≡◌, ℕ, Bool, true, false, not, ◌==◌, ◌&&◌, ◌||◌, List, [], ◌∷◌, ◌++◌, map, filter, find, Option, Some, None, refl, sym, ap, ◌∙◌, subst, inl, inr}
 use Rattle.std.specs.List.{list_any}
 use Rattle.std.specs.Option.{option_map_or, option_and_then}
-use Rattle.std.proofs.lemmas.Bool.{and_parts, and_from, or_left, both_ways, eqb-true, cond_both, cond-false, false_from_ne_true}
-use Rattle.sid_core.specs.declared.bits.LeaseState.{LeaseState}
+use Rattle.std.proofs.lemmas.Bool.{and_parts, both_ways, cond-false, false_from_ne_true}
 use Rattle.sid_core.specs.declared.ids.Sid.{Sid}
-use Rattle.sid_core.specs.declared.ids.OpenId.{OpenId}
 use Rattle.sid_core.specs.declared.ids.LeaseName.{LeaseName}
 use Rattle.sid_core.specs.declared.setup.Setup.{Setup}
 use Rattle.sid_core.specs.Ids.{same_id, same_name}
-use Rattle.sid_core.specs.Values.{has, is_part_of, is_state}
+use Rattle.sid_core.specs.Values.{has}
 use Rattle.serial_table.specs.declared.rows.OpenRow.{OpenRow}
 use Rattle.serial_table.specs.declared.rows.LeaseRow.{LeaseRow}
-use Rattle.serial_table.specs.declared.rows.Breaking.{Breaking}
 use Rattle.serial_table.specs.declared.rows.RangeRow.{RangeRow}
 use Rattle.serial_table.specs.declared.rows.WaiterRow.{WaiterRow}
 use Rattle.serial_table.specs.declared.rows.WorkerRow.{WorkerRow}
 use Rattle.serial_table.specs.declared.table.Table.{Table}
 use Rattle.serial_table.specs.declared.change.Change.TheVariants as c
-use Rattle.serial_table.specs.View.{View, view, lives, carries, is_of_file, is_range_of, is_hold_of, is_end_of, is_to, has_name, has_pid, leases_at}
-use Rattle.serial_table.specs.File.{FileView, FileOpen, file_open, file_view, is_under}
-use Rattle.serial_table.specs.Settle.{settle, settle_where, settle_by_key, settled_lease, broken_to_needed, lacks_handle, keeps_open, row_stays, range_stays, lease_settles, lease_stays}
+use Rattle.serial_table.specs.View.{View, view, lives, carries, is_of_file, is_hold_of, is_end_of, is_to, has_name, has_pid, leases_at}
+use Rattle.serial_table.specs.File.{FileOpen, file_open, file_view, is_under}
+use Rattle.serial_table.specs.Settle.{settle, settle_where, settle_by_key, settled_lease, lacks_handle, keeps_open, row_stays, lease_settles, lease_stays}
 use Rattle.serial_table.specs.Change.{perform, perform_all, is_lease, set_lease}
 use Rattle.serial_table.specs.Expire.{needed_of, expires, then_settles}
-use Rattle.serial_table.specs.Sound.{IsSound, have_same_id, has_its_open, have_same_name, states_agree, breaks_well}
-use Rattle.serial_table.proofs.SameIds.{eqb-flip, same_name-eq, same_name-refl, same_id-refl, same_id-eq}
-use Rattle.serial_table.proofs.Members.{IsIn, each, all_by, any_of, one_of, in_filter, in_map, one_in, passes_in}
-use Rattle.serial_table.proofs.Filters.{filter-filter, filter-map, map_left_alone, any_filtered}
+use Rattle.serial_table.specs.Sound.{IsSound}
+use Rattle.serial_table.proofs.SameIds.{same_name-eq}
+use Rattle.serial_table.proofs.Members.{IsIn, all_by, any_of, one_of, in_filter, passes_in}
+use Rattle.serial_table.proofs.Filters.{filter-filter, filter-map, map_left_alone}
 use Rattle.serial_table.proofs.Every.{filter_map_alike}
 use Rattle.serial_table.proofs.Views.{name-set_lease, name-settled_lease, view-perform}
 use Rattle.serial_table.proofs.Concluding.{perform_all-append}
@@ -37,10 +34,9 @@ use Rattle.stored_table.specs.Decoded.{AllRecords}
 use Rattle.stored_table.specs.Exact.{ref_of, lease_record, lease_of, exact_lease}
 use Rattle.table_laws.proofs.Thinning.{IsThinned, thinned, expiry_thin, less_file, less_handles}
 use Rattle.serial_table.specs.Sound.{AllFit}
-use Rattle.table_laws.proofs.Lists.{filter_each, filter_twice, any_mapped, any_alike, same_test}
+use Rattle.table_laws.proofs.Lists.{filter_each, filter_twice, any_alike}
 use Rattle.table_laws.proofs.Contained.{lease_place, WaitsStep}
 use Rattle.table_laws.proofs.Lessened.{LessFile, Lessened}
-use Rattle.table_laws.proofs.Handles.{each_three, if_so}
 
 -- ---- what one thing leaves of a file, and another of that
 

@@ -3,7 +3,7 @@
 -- The file's records, those of its leases and of the asked one, the caller's own, and those of the owners and watchers of all these are
 -- written whatever the call decides. All that it decides stays there. What expires before may be the asked lease of another file: that
 -- file's own records aren't written, and its disconnected opens under the lease then count no longer.
-use Rattle.std.proofs.Common.{◌≡◌, ℕ, ◌<◌, ◌≤◌, Bool, true, false, cond, not, ◌==◌, ◌&&◌, List, [], ◌∷◌, ◌++◌, filter, Option, Some, None, refl, sym, ap, ◌∙◌, subst, inl, inr, ◌⊎◌, arith, map}
+use Rattle.std.proofs.Common.{◌≡◌, ℕ, ◌≤◌, Bool, true, false, cond, not, ◌==◌, ◌&&◌, List, [], ◌∷◌, ◌++◌, filter, Option, Some, None, refl, sym, ap, ◌∙◌, subst, inl, inr, ◌⊎◌, arith, map}
 use Rattle.std.specs.Prelude.{IfSome}
 use Rattle.std.specs.List.{list_any, list_all, AllByRecursion, flat_map}
 use Rattle.std.specs.Option.{option_map, option_map_or, option_and_then}
@@ -57,7 +57,7 @@ use Rattle.serial_table.proofs.Entries.{call_is_new}
 use Rattle.serial_table.proofs.Living.{lives_among}
 use Rattle.serial_table.proofs.SameIds.{same_id-eq, same_name-eq}
 use Rattle.serial_table.proofs.Members.{IsIn, in_append, in_filter, in_flat_map, in_map, passes_in, some_same}
-use Rattle.serial_table.proofs.Along.{legal_before, along_before, rises_at}
+use Rattle.serial_table.proofs.Along.{legal_before}
 use Rattle.serial_table.proofs.Alike.{after_all-append}
 use Rattle.serial_table.proofs.Callers.{IsCallerOf, is_caller_of}
 use Rattle.serial_table.proofs.Concluding.{no_more_all, conclude_all, start-settled}
@@ -67,7 +67,6 @@ use Rattle.serial_table.proofs.ExpiringFits.{expired_fits}
 use Rattle.serial_table.proofs.GrantOwed.{of_lease}
 use Rattle.serial_table.proofs.InSets.{sid_of}
 use Rattle.serial_table.proofs.SettledSound.{settled-sound}
-use Rattle.serial_table.proofs.Soundness.{IsReached, expiries_reach, calls_reach, deaths_reach, start_reached}
 use Rattle.chain_map.specs.declared.db.Db.TheVariants as db
 use Rattle.stored_table.specs.Keys.{open_key, pid_key, name_key, file_key}
 use Rattle.stored_table.specs.Places.{Chains, Place, place, among}

@@ -1,10 +1,7 @@
 -- Open records where an open may come: the one that comes gets its record, and the others keep theirs.
-use Rattle.std.proofs.Common.{◌≡◌, ℕ, ◌^◌, Bool, true, false, cond, ◌&&◌, List, [], ◌∷◌, ◌++◌, Some, None, refl, sym, ap, ◌∙◌, subst, inl, inr, ◌⊎◌}
+use Rattle.std.proofs.Common.{◌≡◌, ℕ, Bool, true, List, [], ◌∷◌, Some, refl, sym, ap, ◌∙◌, subst, inl, inr, ◌⊎◌}
 use Rattle.std.specs.List.{list_all, AllByRecursion}
-use Rattle.std.specs.Option.{option_and_then}
-use Rattle.std.proofs.lemmas.Bool.{and_parts, and_from, lt-ltb, false_from_ne_true}
-use Rattle.byteorder.specs.Endian.{big_bytes, big_number}
-use Rattle.byteorder.specs.Numbers.{big_number-reads_back}
+use Rattle.std.proofs.lemmas.Bool.{and_parts}
 use Rattle.sid_core.specs.declared.ids.OpenId.{OpenId}
 use Rattle.sid_core.specs.declared.setup.Setup.{Setup}
 use Rattle.sid_core.specs.Values.{IsU32}
@@ -14,23 +11,18 @@ use Rattle.serial_table.specs.declared.change.Change.{Change}
 use Rattle.serial_table.specs.declared.change.Change.TheVariants as c
 use Rattle.serial_table.specs.View.{view, is_of_file, has_id}
 use Rattle.serial_table.specs.Change.{perform, perform_all}
-use Rattle.serial_table.specs.InSets.{IsInSets, IsOpenRow}
+use Rattle.serial_table.specs.InSets.{IsInSets}
 use Rattle.serial_table.specs.Sound.{IsSound}
 use Rattle.serial_table.proofs.SameIds.{same_id-eq, same_id-refl}
-use Rattle.serial_table.proofs.Members.{IsIn, all_of, all_by, in_filter, passes_in}
+use Rattle.serial_table.proofs.Members.{IsIn, all_by, in_filter, passes_in}
 use Rattle.chain_map.specs.declared.db.Db.TheVariants as db
 use Rattle.record_codec.specs.declared.open_rec.OpenRec.{OpenRec}
-use Rattle.stored_table.specs.Keys.{fitting, open_key, is_key}
-use Rattle.stored_table.specs.Places.{Place, place, same_place, among}
+use Rattle.stored_table.specs.Keys.{open_key}
+use Rattle.stored_table.specs.Places.{Place, place, among}
 use Rattle.stored_table.specs.Decoded.{AllRecords}
-use Rattle.stored_table.specs.Exact.{is_empty}
 use Rattle.stored_table.specs.Move.{AddedOpen, added_for}
-use Rattle.stored_table.specs.Moved.{if_still_open, moved_open, moved}
+use Rattle.stored_table.specs.Moved.{moved}
 use Rattle.stored_table.specs.Stands.{AgreeWith, HasOpenRecords}
-use Rattle.stored_table.proofs.Bridging.{are_bytes, bytes_append}
-use Rattle.stored_table.proofs.Writing.{place_is, same_itself}
-use Rattle.table_laws.proofs.Exactly.{in_opens}
-use Rattle.table_laws.proofs.Stepping.{either_of}
 use Rattle.table_laws.proofs.Touching.{touches, IsAdded, open_before}
 use Rattle.table_laws.proofs.AddedOpens.{IsNewNumber, open_added, old_open}
 use Rattle.table_laws.proofs.Chains.{old_opens}

@@ -21,10 +21,8 @@ use Rattle.sid_core.specs.declared.reply.Reply.{Reply}
 use Rattle.sid_core.specs.declared.setup.Setup.{Setup}
 use Rattle.sid_core.specs.Setup.{IsSetup}
 use Rattle.sid_core.specs.Ids.{same_id}
-use Rattle.sid_core.specs.Values.{has}
 use Rattle.serial_table.specs.declared.rows.OpenRow.{OpenRow}
 use Rattle.serial_table.specs.declared.rows.LeaseRow.{LeaseRow}
-use Rattle.serial_table.specs.declared.rows.Breaking.{Breaking}
 use Rattle.serial_table.specs.declared.rows.HoldRow.{HoldRow}
 use Rattle.serial_table.specs.declared.rows.Watch.{Watch}
 use Rattle.serial_table.specs.declared.table.Table.{Table}
@@ -40,12 +38,12 @@ use Rattle.serial_table.specs.Decide.{decide, outcome}
 use Rattle.serial_table.specs.Decision.{Outcome, conclude, waits_no_more, spots_of, woken_by}
 use Rattle.serial_table.specs.Wake.{wake}
 use Rattle.serial_table.specs.Durable.{is_expired}
-use Rattle.serial_table.specs.Expire.{look, due, needed_of, expires, then_settles, expired_by}
+use Rattle.serial_table.specs.Expire.{look, due, expired_by}
 use Rattle.serial_table.specs.Scavenge.{files_of, has_expired, all_expired, goes, scavenge}
 use Rattle.serial_table.specs.Step.{caller_of, changes_of}
 use Rattle.serial_table.specs.History.{start, after, IsLegal, IsLegalCall}
-use Rattle.serial_table.specs.Sound.{AllFit, have_same_id, have_same_name, has_open, is_open_under, states_agree}
-use Rattle.serial_table.proofs.SameIds.{same_name-eq, same_name-flip, eqb-flip}
+use Rattle.serial_table.specs.Sound.{AllFit, have_same_id, has_open, is_open_under}
+use Rattle.serial_table.proofs.SameIds.{same_name-eq, eqb-flip}
 use Rattle.serial_table.proofs.Alike.{after_all-append}
 use Rattle.serial_table.proofs.Along.{legal_before}
 use Rattle.serial_table.proofs.Callers.{is_caller_of}
