@@ -41,29 +41,42 @@ key_pid pid number a b = ap (big_number 4) (open_key_is pid number a b) ∙ big_
 key_number : (pid number : ℕ) → pid < 2 ^ 32 → number < 2 ^ 32 → big_number 4 (drop 4 (open_key pid number)) ≡ number
 key_number pid number a b = ap (λ key. big_number 4 (drop 4 key)) (open_key_is pid number a b) ∙ big_number-reads_back 4 number [] b
 
+-- ---- numbers that no open has yet
+
+-- No open has the number in its id or as its handle.
+pub record IsNewNumber (pid number : ℕ) (t : Table) : Type 0 where
+  pub ids : (o : OpenRow) → IsIn o t.opens → o.id.pid ≡ pid → o.id.call ≡ number → ⊥
+  pub handles : (o : OpenRow) → IsIn o t.opens → o.owner.pid ≡ pid → o.handle ≡ number → ⊥
+
+pub new_above : (pid number : ℕ) (t : Table) → AreBelow number pid t → IsNewNumber pid number t
+new_above pid number t below = record {
+  ids = λ o i own same. let less : o.id.call < number = all_of (λ (x : OpenRow). x.id.pid ≡ pid → x.id.call < number) t.opens below.ids o i own in omega (arith, same, less);
+  handles = λ o i own same. let less : o.handle < number = all_of (λ (x : OpenRow). x.owner.pid ≡ pid → x.handle < number) t.opens below.handles o i own in omega (arith, same, less);
+}
+
+-- ---- the open records after it
+
 module _ (setup : Setup) (ps : List Place) (s : AllRecords) (t u : Table) (agree : AgreeWith setup s (view t)) (sound : IsSound t) (sets : IsInSets setup t)
-    (pid number : ℕ) (pid_fits : pid < 2 ^ 32) (number_fits : number < 2 ^ 32) (met : among (place db.Opens (open_key pid number)) ps ≡ true) (below : AreBelow number pid t) (value : OpenRec) where
+    (pid number : ℕ) (pid_fits : pid < 2 ^ 32) (number_fits : number < 2 ^ 32) (met : among (place db.Opens (open_key pid number)) ps ≡ true) (new : IsNewNumber pid number t) (value : OpenRec) where
   abbrev after_it : AllRecords
   after_it = moved setup ps (Some (record { key = open_key pid number; value = value })) (view u) s
 
   -- another key than that of the open record that is added
-  apart : (p c : ℕ) → p < 2 ^ 32 → c < 2 ^ 32 → (p ≡ pid → c < number) → same_place (place db.Opens (open_key pid number)) (place db.Opens (open_key p c)) ≡ false
-  apart p c a b low = false_from_ne_true (same_place (place db.Opens (open_key pid number)) (place db.Opens (open_key p c))) (λ e.
+  apart : (p c : ℕ) → p < 2 ^ 32 → c < 2 ^ 32 → (p ≡ pid → c ≡ number → ⊥) → same_place (place db.Opens (open_key pid number)) (place db.Opens (open_key p c)) ≡ false
+  apart p c a b other = false_from_ne_true (same_place (place db.Opens (open_key pid number)) (place db.Opens (open_key p c))) (λ e.
       let key : open_key pid number ≡ open_key p c = ap (λ (x : Place). x.key) (place_is (place db.Opens (open_key pid number)) (place db.Opens (open_key p c)) e) in
       let own : p ≡ pid = sym (key_pid p c a b) ∙ ap (big_number 4) (sym key) ∙ key_pid pid number pid_fits number_fits in
-      let same : c ≡ number = sym (key_number p c a b) ∙ ap (λ k. big_number 4 (drop 4 k)) (sym key) ∙ key_number pid number pid_fits number_fits in
-      let less : c < number = low own in
-      omega (arith, same, less))
+      other own (sym (key_number p c a b) ∙ ap (λ k. big_number 4 (drop 4 k)) (sym key) ∙ key_number pid number pid_fits number_fits))
 
-  open_stays : (p c : ℕ) → p < 2 ^ 32 → c < 2 ^ 32 → (p ≡ pid → c < number) → (r : OpenRec) → s.opens p c ≡ Some r → is_empty ((view u).opens_of_id r.id) ≡ false → after_it.opens p c ≡ Some r
-  open_stays p c a b low r is some =
+  open_stays : (p c : ℕ) → p < 2 ^ 32 → c < 2 ^ 32 → (p ≡ pid → c ≡ number → ⊥) → (r : OpenRec) → s.opens p c ≡ Some r → is_empty ((view u).opens_of_id r.id) ≡ false → after_it.opens p c ≡ Some r
+  open_stays p c a b other r is some =
       let key = is_key db.Opens (open_key pid number) in
       either_of (λ x. x) (among (place db.Opens (open_key p c)) ps) (moved_open (view u) (Some (record { key = open_key pid number; value = value })) (place db.Opens (open_key p c)) (s.opens p c)) (s.opens p c) (Some r)
-      (ap (λ d. cond d (Some value) (option_and_then (if_still_open (view u)) (s.opens p c))) (and_right key _ (apart p c a b low))
+      (ap (λ d. cond d (Some value) (option_and_then (if_still_open (view u)) (s.opens p c))) (and_right key _ (apart p c a b other))
       ∙ ap (option_and_then (if_still_open (view u))) is ∙ ap (λ d. cond d None (Some r)) some)
       (λ unmet. is)
 
-  open_added : after_it.opens pid number ≡ Some value
+  pub open_added : after_it.opens pid number ≡ Some value
   open_added =
       ap (λ b. cond b (moved_open (view u) (Some (record { key = open_key pid number; value = value })) (place db.Opens (open_key pid number)) (s.opens pid number)) (s.opens pid number)) met
       ∙ ap (λ b. cond b (Some value) (option_and_then (if_still_open (view u)) (s.opens pid number)))
@@ -77,13 +90,13 @@ module _ (setup : Setup) (ps : List Place) (s : AllRecords) (t u : Table) (agree
       not_empty (x ∷ xs) i = refl
 
   -- an open that was there before
-  old_open : (o : OpenRow) → IsIn o t.opens → IsIn o u.opens → HasOpenRecords after_it o
+  pub old_open : (o : OpenRow) → IsIn o t.opens → IsIn o u.opens → HasOpenRecords after_it o
   old_open o i j =
       let old = all_of (HasOpenRecords s) ((view t).opens_of o.file) (agree.opens o.file) o (in_opens t sound o i) in
       let fits = all_of (IsOpenRow setup) t.opens sets.opens o i in
       record {
-        by_id = open_stays o.id.pid o.id.call fits.id.pid.number fits.id.call (all_of (λ (x : OpenRow). x.id.pid ≡ pid → x.id.call < number) t.opens below.ids o i) (record { id = o.id; file = o.file }) old.by_id (some_of_id o j);
-        by_handle = open_stays o.owner.pid o.handle fits.owner.pid.number fits.handle (all_of (λ (x : OpenRow). x.owner.pid ≡ pid → x.handle < number) t.opens below.handles o i) (record { id = o.id; file = o.file }) old.by_handle (some_of_id o j);
+        by_id = open_stays o.id.pid o.id.call fits.id.pid.number fits.id.call (new.ids o i) (record { id = o.id; file = o.file }) old.by_id (some_of_id o j);
+        by_handle = open_stays o.owner.pid o.handle fits.owner.pid.number fits.handle (new.handles o i) (record { id = o.id; file = o.file }) old.by_handle (some_of_id o j);
       }
 
   -- an open that was there before, and has another owner and handle now: those of the record that is added
@@ -102,7 +115,7 @@ module _ (setup : Setup) (ps : List Place) (s : AllRecords) (t u : Table) (agree
       let fits = all_of (IsOpenRow setup) t.opens sets.opens h.row h.there in
       record {
         by_id = (λ m. after_it.opens (sym h.id m).pid (sym h.id m).call)
-            ∙ open_stays h.row.id.pid h.row.id.call fits.id.pid.number fits.id.call (all_of (λ (x : OpenRow). x.id.pid ≡ pid → x.id.call < number) t.opens below.ids h.row h.there) (record { id = o.id; file = o.file })
+            ∙ open_stays h.row.id.pid h.row.id.call fits.id.pid.number fits.id.call (new.ids h.row h.there) (record { id = o.id; file = o.file })
             (old.by_id ∙ (λ m. Some (let r : OpenRec = record { id = h.id m; file = h.file m } in r))) (some_of_id o j);
         by_handle = (λ m. after_it.opens (h.owner m) (h.handle m)) ∙ open_added ∙ ap Some h.added;
       }

@@ -1,5 +1,5 @@
 -- Breaks of a file's leases: they change leases of the file alone, and post to owners of its opens.
-use Rattle.std.proofs.Common.{◌≡◌, ℕ, Bool, true, false, cond, ◌==◌, ◌&&◌, List, [], ◌∷◌, ◌++◌, map, filter, Option, Some, None, refl, sym, ap, ◌∙◌, subst, inl, inr, ◌⊎◌}
+use Rattle.std.proofs.Common.{◌≡◌, ℕ, Bool, true, false, ◌==◌, ◌&&◌, List, [], ◌∷◌, filter, Option, Some, None, refl, sym, ◌∙◌, subst, inl, inr, ◌⊎◌}
 use Rattle.std.specs.Prelude.{IfSome, bit_and}
 use Rattle.std.specs.List.{list_all}
 use Rattle.std.proofs.lemmas.Bool.{and_parts, and_from, cond_both}
@@ -15,7 +15,7 @@ use Rattle.serial_table.specs.declared.rows.LeaseRow.{LeaseRow}
 use Rattle.serial_table.specs.declared.rows.Breaking.{Breaking}
 use Rattle.serial_table.specs.declared.change.Change.{Change}
 use Rattle.serial_table.specs.declared.change.Change.TheVariants as c
-use Rattle.serial_table.specs.Break.{Breaks, no_break, breaks_at_once, breaks_read, begins_to_break, breaks_to, first_owner, breaks_further, break_by, connected_under, break_lease, break_first, first_of, both, break_each, names_of, break_others}
+use Rattle.serial_table.specs.Break.{Breaks, no_break, breaks_read, begins_to_break, breaks_to, first_owner, break_by, connected_under, break_lease, break_first, first_of, both, break_each}
 use Rattle.serial_table.specs.File.{FileView, FileOpen, is_under}
 use Rattle.serial_table.specs.Local.{perform_in_file, perform_all_in_file}
 use Rattle.serial_table.specs.Settle.{settle_file}

@@ -1,40 +1,36 @@
 -- `recv`, `tidy`, `status` and a tidied chain keep what the databases stand for.
-use Rattle.std.proofs.Common.{◌≡◌, ℕ, Bool, true, false, cond, List, [], ◌∷◌, ◌++◌, Option, Some, None, refl, sym, ap, ◌∙◌, subst, inl, inr}
-use Rattle.std.specs.List.{list_all, AllByRecursion}
+use Rattle.std.proofs.Common.{◌≡◌, ℕ, Bool, true, false, List, [], ◌∷◌, ◌++◌, None, refl, sym, ap, ◌∙◌, subst, inl}
+use Rattle.std.specs.List.{list_all}
 use Rattle.std.specs.Option.{option_map_or}
 use Rattle.std.proofs.lemmas.Bool.{and_from}
 use Rattle.sid_core.specs.declared.call.Call.{Call}
 use Rattle.sid_core.specs.declared.call.Call.TheVariants as call
 use Rattle.sid_core.specs.declared.call.Tables.{Tables}
 use Rattle.sid_core.specs.declared.entry.Entry.{Entry}
-use Rattle.sid_core.specs.declared.entry.Event.TheVariants.{Called, Tidied}
+use Rattle.sid_core.specs.declared.entry.Event.TheVariants.{Tidied}
 use Rattle.sid_core.specs.declared.entry.Post.{Post}
 use Rattle.sid_core.specs.declared.ids.Moment.{Moment}
 use Rattle.sid_core.specs.declared.reply.Reply.{Reply}
 use Rattle.sid_core.specs.declared.reply.Reply.TheVariants.{Done, Shown, NoMessage}
 use Rattle.sid_core.specs.declared.setup.Setup.{Setup}
-use Rattle.sid_core.specs.declared.setup.WorkerInfo.{WorkerInfo}
 use Rattle.sid_core.specs.Setup.{IsSetup}
 use Rattle.serial_table.specs.declared.table.Table.{Table}
-use Rattle.serial_table.specs.declared.change.Change.TheVariants as c
 use Rattle.serial_table.specs.declared.decision.Caller.{Caller}
 use Rattle.serial_table.specs.declared.decision.Decision.{Decision}
 use Rattle.serial_table.specs.View.{View, view}
-use Rattle.serial_table.specs.Settle.{settle}
 use Rattle.serial_table.specs.Change.{perform_all}
-use Rattle.serial_table.specs.Decide.{decide, outcome}
+use Rattle.serial_table.specs.Decide.{decide}
 use Rattle.serial_table.specs.Decision.{only_reply}
 use Rattle.serial_table.specs.Expire.{expired_by}
 use Rattle.serial_table.specs.History.{start, after, IsLegal}
 use Rattle.serial_table.specs.Recv.{recv_first, recv}
-use Rattle.serial_table.specs.Step.{declared_at}
 use Rattle.serial_table.proofs.Alike.{after_all-append}
 use Rattle.serial_table.proofs.Concluding.{start-settled}
 use Rattle.serial_table.proofs.Expiring.{after_all-settled}
 use Rattle.stored_table.specs.Keys.{pid_key}
 use Rattle.stored_table.specs.Places.{Chains, Place, among}
 use Rattle.stored_table.specs.Decoded.{records_of}
-use Rattle.stored_table.specs.Met.{Met, met_by_call, met_by_worker, all_met, nothing_met}
+use Rattle.stored_table.specs.Met.{met_by_call, met_by_worker, all_met, nothing_met}
 use Rattle.stored_table.specs.Move.{move, places_written}
 use Rattle.stored_table.specs.Stands.{StandsFor}
 use Rattle.table_laws.specs.Standing.{KeepsStanding}
@@ -42,9 +38,9 @@ use Rattle.table_laws.proofs.Contained.{mail_place}
 use Rattle.table_laws.proofs.Meets.{own_mail}
 use Rattle.table_laws.proofs.Touching.{contained}
 use Rattle.table_laws.proofs.Deciding.{IsContained, reply_contained}
-use Rattle.table_laws.proofs.Chains.{IsFine, legal_is_fine, legal_start, adds_no_open, old_opens, chains_stand}
+use Rattle.table_laws.proofs.Chains.{legal_is_fine, legal_start, adds_no_open, old_opens, chains_stand}
 use Rattle.table_laws.proofs.Calls.{call_contained, call_opens}
-use Rattle.table_laws.proofs.HandleEvents.{entry, table_before, IsContainedCall, keeps_standing}
+use Rattle.table_laws.proofs.HandleEvents.{entry, keeps_standing}
 
 -- no file's records
 abbrev pub nowhere : ℕ → Bool

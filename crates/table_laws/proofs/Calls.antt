@@ -1,12 +1,10 @@
 -- A call that ends no session: what expires before it, and what it then decides, do nothing beside the places that are written.
-use Rattle.std.proofs.Common.{◌≡◌, ℕ, Bool, true, false, cond, ◌==◌, ◌&&◌, ◌||◌, List, [], ◌∷◌, ◌++◌, map, filter, Option, Some, None, refl, sym, ap, ◌∙◌, subst, inl, inr, ◌⊎◌}
-use Rattle.std.specs.Prelude.{IfSome}
-use Rattle.std.specs.List.{list_any, list_all, AllByRecursion, flat_map, filter_map}
+use Rattle.std.proofs.Common.{◌≡◌, ℕ, Bool, true, false, cond, ◌==◌, ◌&&◌, List, [], ◌∷◌, ◌++◌, map, Option, Some, None, refl, sym, ap, ◌∙◌, subst, inl, inr}
+use Rattle.std.specs.List.{list_any, list_all, filter_map}
 use Rattle.std.specs.Option.{option_map, option_map_or}
-use Rattle.std.proofs.lemmas.Bool.{and_parts, and_from, eqb-true, eq-eqb}
+use Rattle.std.proofs.lemmas.Bool.{and_parts, and_from, eqb-true}
 use Rattle.std.proofs.lemmas.List.Folds.{list_all-append, list_all-map}
 use Rattle.sid_core.specs.declared.call.Call.{Call}
-use Rattle.sid_core.specs.declared.entry.Event.{Event}
 use Rattle.sid_core.specs.declared.entry.Event.TheVariants.{Called}
 use Rattle.sid_core.specs.declared.ids.LeaseName.{LeaseName}
 use Rattle.sid_core.specs.declared.ids.Moment.{Moment}
@@ -19,30 +17,27 @@ use Rattle.serial_table.specs.declared.rows.LeaseRow.{LeaseRow}
 use Rattle.serial_table.specs.declared.rows.Watch.{Watch}
 use Rattle.serial_table.specs.declared.table.Table.{Table}
 use Rattle.serial_table.specs.declared.change.Change.{Change}
-use Rattle.serial_table.specs.declared.change.Change.TheVariants as c
 use Rattle.serial_table.specs.declared.decision.Caller.{Caller}
-use Rattle.serial_table.specs.declared.decision.Decision.{Decision}
-use Rattle.serial_table.specs.View.{View, view, has_name, carries}
+use Rattle.serial_table.specs.View.{view, has_name}
 use Rattle.serial_table.specs.Settle.{settle}
-use Rattle.serial_table.specs.Change.{perform_all, perform_all_by_key}
+use Rattle.serial_table.specs.Change.{perform_all}
 use Rattle.serial_table.specs.Break.{each_once}
 use Rattle.serial_table.specs.Decision.{Outcome, conclude}
-use Rattle.serial_table.specs.Decide.{decide, outcome, outcome_behind}
-use Rattle.serial_table.specs.Expire.{carried_by, names_at, names_beside, look, is_due, expires, due, then_settles, expiry, expired_by}
+use Rattle.serial_table.specs.Decide.{decide, outcome}
+use Rattle.serial_table.specs.Expire.{carried_by, look, expires, due, expired_by}
 use Rattle.serial_table.specs.History.{after_event}
-use Rattle.serial_table.specs.Step.{caller_of, changes_of}
+use Rattle.serial_table.specs.Step.{caller_of}
 use Rattle.serial_table.specs.Sound.{IsSound, has_its_lease}
-use Rattle.serial_table.proofs.SameIds.{same_name-eq, same_name-refl}
-use Rattle.serial_table.proofs.Members.{IsIn, each, all_each, one_of, in_filter, in_flat_map, passes_in}
+use Rattle.serial_table.proofs.Members.{IsIn, each, all_each, one_of, passes_in}
 use Rattle.serial_table.proofs.Views.{view-perform_all}
 use Rattle.serial_table.proofs.Broken.{filter_map-map}
 use Rattle.serial_table.proofs.Concluding.{conclude_all}
 use Rattle.serial_table.proofs.Expiring.{settles_all, expired_all}
-use Rattle.stored_table.specs.Places.{Place, place, among}
+use Rattle.stored_table.specs.Places.{Place, among}
 use Rattle.stored_table.specs.Decoded.{AllRecords}
 use Rattle.table_laws.proofs.Lists.{all_joined}
 use Rattle.table_laws.proofs.Contained.{share_place, ranges_place, IsMetName, Contained}
-use Rattle.table_laws.proofs.Exactly.{of_file, single}
+use Rattle.table_laws.proofs.Exactly.{single}
 use Rattle.table_laws.proofs.Touching.{touches, reaches, IsNewIn, contained}
 use Rattle.table_laws.proofs.Deciding.{adds_no_waiter, watch_before, none_new, AreContained, IsContained, concluded}
 use Rattle.table_laws.proofs.Chains.{adds_no_open, all_still_in}

@@ -11,10 +11,9 @@ use Rattle.serial_table.specs.declared.rows.OpenRow.{OpenRow}
 use Rattle.serial_table.specs.declared.table.Table.{Table}
 use Rattle.serial_table.specs.declared.change.Change.{Change}
 use Rattle.serial_table.specs.declared.change.Change.TheVariants as c
-use Rattle.serial_table.specs.View.{View, view, is_of_file, has_id}
+use Rattle.serial_table.specs.View.{view, is_of_file, has_id}
 use Rattle.serial_table.specs.Change.{perform, perform_all}
-use Rattle.serial_table.specs.History.{start, after, after_all, after_entry, IsLegal, own_seq, seqs_of, own_number, numbers_of}
-use Rattle.serial_table.specs.Settle.{settle}
+use Rattle.serial_table.specs.History.{start, after, IsLegal, own_seq, seqs_of, own_number, numbers_of}
 use Rattle.serial_table.specs.Sound.{IsSound}
 use Rattle.serial_table.specs.InSets.{IsInSets}
 use Rattle.serial_table.specs.Bounded.{IsBounded}
@@ -30,7 +29,7 @@ use Rattle.stored_table.specs.Keys.{open_key}
 use Rattle.stored_table.specs.Places.{Chains, Place, place, among}
 use Rattle.stored_table.specs.Decoded.{AllRecords, records_of}
 use Rattle.stored_table.specs.Exact.{is_empty}
-use Rattle.stored_table.specs.Move.{AddedOpen, added, move, places_written}
+use Rattle.stored_table.specs.Move.{added, move, places_written}
 use Rattle.stored_table.specs.Moved.{if_still_open, moved_open, moved}
 use Rattle.stored_table.specs.Stands.{AgreeWith, HasOpenRecords, StandsFor}
 use Rattle.stored_table.proofs.Spelling.{have_spellings, added_has_spelling}
@@ -62,11 +61,11 @@ flat_joined f (x ∷ xs) ys = ap (λ zs. f x ++ zs) (flat_joined f xs ys) ∙ gr
     grouped [] b d = refl
     grouped (y ∷ a) b d = ap (λ zs. y ∷ zs) (grouped a b d)
 
-counts_before : (n : ℕ) (xs ys : List ℕ) → CountsFrom n (xs ++ ys) → CountsFrom n xs
+pub counts_before : (n : ℕ) (xs ys : List ℕ) → CountsFrom n (xs ++ ys) → CountsFrom n xs
 counts_before n [] ys h = tt
 counts_before n (x ∷ xs) ys h = (h.0, counts_before (n + 1) xs ys h.1)
 
-rises_before : (n : ℕ) (xs ys : List ℕ) → RisesAbove n (xs ++ ys) → RisesAbove n xs
+pub rises_before : (n : ℕ) (xs ys : List ℕ) → RisesAbove n (xs ++ ys) → RisesAbove n xs
 rises_before n [] ys h = tt
 rises_before n (x ∷ xs) ys h = (h.0, rises_before x xs ys h.1)
 

@@ -1,10 +1,9 @@
 -- What a decision owes so that all that it comes to does nothing beside the places that are written.
-use Rattle.std.proofs.Common.{◌≡◌, ℕ, Bool, true, false, cond, ◌&&◌, ◌||◌, List, [], ◌∷◌, ◌++◌, map, filter, Option, Some, None, refl, sym, ap, ◌∙◌, subst, inl, inr, ◌⊎◌}
+use Rattle.std.proofs.Common.{◌≡◌, ℕ, Bool, true, false, List, [], ◌∷◌, ◌++◌, map, filter, Option, Some, None, refl, sym, ap, ◌∙◌, subst, inl, inr, ◌⊎◌}
 use Rattle.std.specs.Prelude.{IfSome}
-use Rattle.std.specs.List.{list_all, AllByRecursion, flat_map}
+use Rattle.std.specs.List.{list_all, AllByRecursion}
 use Rattle.std.proofs.lemmas.Bool.{and_parts, and_from}
 use Rattle.std.proofs.lemmas.List.Folds.{list_all-append, list_all-map}
-use Rattle.sid_core.specs.declared.ids.Sid.{Sid}
 use Rattle.sid_core.specs.declared.ids.Spot.{Spot}
 use Rattle.sid_core.specs.declared.entry.Post.{Post}
 use Rattle.sid_core.specs.declared.reply.Reply.{Reply}
@@ -15,15 +14,15 @@ use Rattle.serial_table.specs.declared.table.Table.{Table}
 use Rattle.serial_table.specs.declared.change.Change.{Change}
 use Rattle.serial_table.specs.declared.change.Change.TheVariants as c
 use Rattle.serial_table.specs.declared.decision.Decision.{Decision}
-use Rattle.serial_table.specs.View.{view, is_of_handle, waits_on, watch_on}
+use Rattle.serial_table.specs.View.{view, waits_on, watch_on}
 use Rattle.serial_table.specs.Settle.{settle_where}
-use Rattle.serial_table.specs.Change.{perform, perform_all, perform_all_by_key}
+use Rattle.serial_table.specs.Change.{perform, perform_all}
 use Rattle.serial_table.specs.Wake.{wake, waiting_on}
 use Rattle.serial_table.specs.Decision.{only_reply, waits_no_more, waits_now, settling, finishing, freed_spots, woken_by, conclude}
-use Rattle.serial_table.proofs.Members.{IsIn, all_each, all_by, in_filter, in_append, in_map, in_flat_map, passes_in, mapped_in}
+use Rattle.serial_table.proofs.Members.{IsIn, all_each, in_filter, in_append, in_map, in_flat_map, passes_in, mapped_in}
 use Rattle.serial_table.proofs.Views.{view-perform_all}
-use Rattle.serial_table.proofs.Concluding.{PassesFinishing, conclude_all}
-use Rattle.stored_table.specs.Places.{Place, place, among}
+use Rattle.serial_table.proofs.Concluding.{conclude_all}
+use Rattle.stored_table.specs.Places.{Place, among}
 use Rattle.stored_table.specs.Decoded.{AllRecords}
 use Rattle.table_laws.proofs.Contained.{mail_place}
 use Rattle.table_laws.proofs.Touching.{touches, reaches, meets_waiter, IsNewWait, IsNewIn}

@@ -1,9 +1,9 @@
 -- The exact records of a sound table count whole.
-use Rattle.std.proofs.Common.{◌≡◌, ℕ, Bool, true, false, cond, not, ◌==◌, ◌&&◌, ◌||◌, List, [], ◌∷◌, map, filter, Option, Some, None, refl, sym, ap, ◌∙◌, subst, inl, inr, ◌⊎◌}
+use Rattle.std.proofs.Common.{◌≡◌, ℕ, Bool, true, false, cond, not, ◌==◌, ◌&&◌, ◌||◌, List, [], ◌∷◌, map, Option, Some, None, refl, sym, ap, ◌∙◌, subst, inl, inr}
 use Rattle.std.specs.Prelude.{is_some}
-use Rattle.std.specs.List.{list_any, list_all, IsDistinct}
+use Rattle.std.specs.List.{list_any, IsDistinct}
 use Rattle.std.specs.Option.{option_map_or, option_and_then}
-use Rattle.std.proofs.lemmas.Bool.{and_parts, and_from, or_left, or_right, or_cases, both_ways, eqb-true, eq-eqb}
+use Rattle.std.proofs.lemmas.Bool.{and_parts, and_from, or_left, or_right, both_ways, eqb-true, eq-eqb}
 use Rattle.sid_core.specs.declared.ids.Sid.{Sid}
 use Rattle.sid_core.specs.declared.ids.OpenId.{OpenId}
 use Rattle.sid_core.specs.declared.ids.LeaseName.{LeaseName}
@@ -15,10 +15,9 @@ use Rattle.serial_table.specs.declared.rows.Breaking.{Breaking}
 use Rattle.serial_table.specs.declared.table.Table.{Table}
 use Rattle.serial_table.specs.View as table
 use Rattle.serial_table.specs.View.{View, view, is_of_file, has_name, carries, leases_at}
-use Rattle.serial_table.specs.Sound.{IsSound, has_its_lease, have_same_name, is_durable, lasts, may_stay, holds_handle, may_break, is_open_under, has_open}
+use Rattle.serial_table.specs.Sound.{IsSound, has_its_lease, have_same_name, is_durable, lasts, may_stay, holds_handle, may_break, is_open_under}
 use Rattle.serial_table.proofs.SameIds.{same_id-eq, same_id-refl, same_name-eq, same_name-refl}
-use Rattle.serial_table.proofs.Members.{IsIn, each, all_of, any_of, one_of, in_filter, passes_in, mapped_in, in_map, distinct_filtered}
-use Rattle.record_codec.specs.declared.share_rec.ShareEntry.{ShareEntry}
+use Rattle.serial_table.proofs.Members.{IsIn, each, any_of, one_of, in_filter, passes_in, mapped_in, in_map, distinct_filtered}
 use Rattle.record_codec.specs.declared.lease_rec.LeaseRef.{LeaseRef}
 use Rattle.record_codec.specs.declared.lease_rec.LeaseRec.{LeaseRec}
 use Rattle.record_codec.specs.Counts.{Records, lives, is_connected, is_unanswered, settled_state, ref_counts, settled_lease, keeps, is_kept, entry_counts}

@@ -3,31 +3,28 @@
 use Rattle.std.proofs.Common.{◌≡◌, ℕ, Bool, true, false, not, ◌==◌, ◌&&◌, ◌||◌, List, [], ◌∷◌, ◌++◌, map, filter, find, Option, Some, None, refl, sym, ap, ◌∙◌, subst, inl, inr}
 use Rattle.std.specs.List.{list_any}
 use Rattle.std.specs.Option.{option_map_or, option_and_then}
-use Rattle.std.proofs.lemmas.Bool.{and_parts, and_from, or_left, both_ways, eqb-true, cond_both, cond-false, false_from_ne_true}
-use Rattle.sid_core.specs.declared.bits.LeaseState.{LeaseState}
+use Rattle.std.proofs.lemmas.Bool.{and_parts, both_ways, cond-false, false_from_ne_true}
 use Rattle.sid_core.specs.declared.ids.Sid.{Sid}
-use Rattle.sid_core.specs.declared.ids.OpenId.{OpenId}
 use Rattle.sid_core.specs.declared.ids.LeaseName.{LeaseName}
 use Rattle.sid_core.specs.declared.setup.Setup.{Setup}
 use Rattle.sid_core.specs.Ids.{same_id, same_name}
-use Rattle.sid_core.specs.Values.{has, is_part_of, is_state}
+use Rattle.sid_core.specs.Values.{has}
 use Rattle.serial_table.specs.declared.rows.OpenRow.{OpenRow}
 use Rattle.serial_table.specs.declared.rows.LeaseRow.{LeaseRow}
-use Rattle.serial_table.specs.declared.rows.Breaking.{Breaking}
 use Rattle.serial_table.specs.declared.rows.RangeRow.{RangeRow}
 use Rattle.serial_table.specs.declared.rows.WaiterRow.{WaiterRow}
 use Rattle.serial_table.specs.declared.rows.WorkerRow.{WorkerRow}
 use Rattle.serial_table.specs.declared.table.Table.{Table}
 use Rattle.serial_table.specs.declared.change.Change.TheVariants as c
-use Rattle.serial_table.specs.View.{View, view, lives, carries, is_of_file, is_range_of, is_hold_of, is_end_of, is_to, has_name, has_pid, leases_at}
-use Rattle.serial_table.specs.File.{FileView, FileOpen, file_open, file_view, is_under}
-use Rattle.serial_table.specs.Settle.{settle, settle_where, settle_by_key, settled_lease, broken_to_needed, lacks_handle, keeps_open, row_stays, range_stays, lease_settles, lease_stays}
+use Rattle.serial_table.specs.View.{View, view, lives, carries, is_of_file, is_hold_of, is_end_of, is_to, has_name, has_pid, leases_at}
+use Rattle.serial_table.specs.File.{FileOpen, file_open, file_view, is_under}
+use Rattle.serial_table.specs.Settle.{settle, settle_where, settle_by_key, settled_lease, lacks_handle, keeps_open, row_stays, lease_settles, lease_stays}
 use Rattle.serial_table.specs.Change.{perform, perform_all, is_lease, set_lease}
 use Rattle.serial_table.specs.Expire.{needed_of, expires, then_settles}
-use Rattle.serial_table.specs.Sound.{IsSound, have_same_id, has_its_open, have_same_name, states_agree, breaks_well}
-use Rattle.serial_table.proofs.SameIds.{eqb-flip, same_name-eq, same_name-refl, same_id-refl, same_id-eq}
-use Rattle.serial_table.proofs.Members.{IsIn, each, all_by, any_of, one_of, in_filter, in_map, one_in, passes_in}
-use Rattle.serial_table.proofs.Filters.{filter-filter, filter-map, map_left_alone, any_filtered}
+use Rattle.serial_table.specs.Sound.{IsSound}
+use Rattle.serial_table.proofs.SameIds.{same_name-eq}
+use Rattle.serial_table.proofs.Members.{IsIn, all_by, any_of, one_of, in_filter, passes_in}
+use Rattle.serial_table.proofs.Filters.{filter-filter, filter-map, map_left_alone}
 use Rattle.serial_table.proofs.Every.{filter_map_alike}
 use Rattle.serial_table.proofs.Views.{name-set_lease, name-settled_lease, view-perform}
 use Rattle.serial_table.proofs.Concluding.{perform_all-append}
@@ -36,10 +33,11 @@ use Rattle.stored_table.specs.Places.{Place, among}
 use Rattle.stored_table.specs.Decoded.{AllRecords}
 use Rattle.record_rows.specs.Rows.{ref_of}
 use Rattle.stored_table.specs.Exact.{lease_record, lease_of, exact_lease}
-use Rattle.table_laws.proofs.Lists.{filter_each, filter_twice, any_mapped, any_alike, same_test}
+use Rattle.table_laws.proofs.Thinning.{IsThinned, thinned, expiry_thin, less_file, less_handles}
+use Rattle.serial_table.specs.Sound.{AllFit}
+use Rattle.table_laws.proofs.Lists.{filter_each, filter_twice, any_alike}
 use Rattle.table_laws.proofs.Contained.{lease_place, WaitsStep}
 use Rattle.table_laws.proofs.Lessened.{LessFile, Lessened}
-use Rattle.table_laws.proofs.Handles.{each_three, if_so}
 
 -- ---- what one thing leaves of a file, and another of that
 
@@ -115,13 +113,13 @@ module _ (setup : Setup) (ps : List Place) (s : AllRecords) (t b u : Table) (f :
 
   -- What is done behind it is done beside no more places.
   pub lessened_behind : ((sid : Sid) → lives (view u) sid ≡ true → lives (view b) sid ≡ true) → Lessened setup ps s b u → Lessened setup ps s t u
-  lessened_behind living l = record {
+  lessened_behind alive l = record {
     here = l.here;
     written = l.written;
-    living = λ sid e. inl (sym (lives_same sid) ∙ living sid e);
+    living = λ sid e. inl (sym (lives_same sid) ∙ alive sid e);
     worker_mail = λ pid unmet. l.worker_mail pid unmet ∙ worker_same pid;
     worker_register = λ pid unmet. let w = l.worker_register pid unmet in (w.0 ∙ worker_same pid, w.1 ∙ ap (filter (is_end_of pid)) f.ended);
-    others = λ file out. less_then file (view t) (view b) (view u) living (f.files file) (l.others file out);
+    others = λ file out. less_then file (view t) (view b) (view u) alive (f.files file) (l.others file out);
     leases = λ name unmet r living. ap (option_and_then (Rattle.record_codec.specs.Counts.settled_lease r)) (f.leases name unmet) ∙ l.leases name unmet r living;
     handles = λ file out name row i h. let old = l.handles file out name row i h in f.handles file name old.0 old.1 old.2;
     holds = λ key unmet. l.holds key unmet ∙ ap (λ hs. filter (λ (hold : Rattle.serial_table.specs.declared.rows.HoldRow.HoldRow). lives (view u) hold.owner) (filter (is_hold_of key) hs)) f.holds;
@@ -164,73 +162,10 @@ left_alone (l ∷ ls) name other y e =
     (ap (λ n. same_name n name) (sym (same_name-eq y.name l.name (and_parts (y.file == l.file) (same_name y.name l.name) h).1)) ∙ e))))
     ∙ left_alone ls name (λ k i. other k (inr i)) y e
 
--- ---- HANDLE of a lease
-
--- it comes from another of its name and file, and has HANDLE only where that had it
-record IsFaded (old y : LeaseRow) : Type 0 where
-  name : y.name ≡ old.name
-  file : y.file ≡ old.file
-  held : has y.held.0 2 ≡ true → has old.held.0 2 ≡ true
-  needed : has (needed_of y).0 2 ≡ true → has old.held.0 2 ≡ true
-
-needed_of_is : (l : LeaseRow) (breaking : Option Breaking) → l.breaking ≡ breaking → needed_of l ≡ option_map_or (λ (b : Breaking). b.needed) breaking l.held
-needed_of_is l breaking is = ap (λ o. option_map_or (λ (b : Breaking). b.needed) o l.held) is
-
-needs_less : (l : LeaseRow) (breaking : Option Breaking) → l.breaking ≡ breaking → states_agree l.held.0 breaking ≡ true → has (needed_of l).0 2 ≡ true → has l.held.0 2 ≡ true
-needs_less l None is e h = ap (λ (x : LeaseState). has x.0 2) (sym (needed_of_is l None is)) ∙ h
-needs_less l (Some b) is e h =
-    let held = and_parts (is_state l.held.0) (breaks_well l.held.0 (Some b)) e in
-    let asked = and_parts (is_state b.asked.0) _ held.1 in
-    let needed = and_parts (is_state b.needed.0) _ asked.1 in
-    let part = and_parts (is_part_of b.needed.0 b.asked.0) _ needed.1 in
-    let less = and_parts (is_part_of b.asked.0 l.held.0) _ part.1 in
-    if_so (is_part_of b.needed.0 b.asked.0 && (is_part_of b.asked.0 l.held.0 && has b.needed.0 2)) (has l.held.0 2)
-    (each_three (λ n a x. not (is_part_of n a && (is_part_of a x && has n 2)) || has x 2) refl b.needed.0 b.asked.0 l.held.0 needed.0 asked.0 held.0)
-    (and_from _ _ part.0 (and_from _ _ less.0 (ap (λ (x : LeaseState). has x.0 2) (sym (needed_of_is l (Some b) is)) ∙ h)))
-
--- settling gives what is needed, if anything
-settled_faded : (f : FileView) (old y : LeaseRow) → IsFaded old y → IsFaded old (settled_lease f y)
-settled_faded f old y is =
-    cond_both (list_any (λ o. is_under y.name o && o.connected) f.opens) y (broken_to_needed y y.breaking) (IsFaded old) (λ _. is) (λ _. by y.breaking refl)
-  where
-    by : (breaking : Option Breaking) → y.breaking ≡ breaking → IsFaded old (broken_to_needed y breaking)
-    by None e = is
-    by (Some b) e = record {
-      name = is.name;
-      file = is.file;
-      held = λ h. is.needed (ap (λ (x : LeaseState). has x.0 2) (needed_of_is y (Some b) e) ∙ h);
-      needed = λ h. is.needed (ap (λ (x : LeaseState). has x.0 2) (needed_of_is y (Some b) e) ∙ h);
-    }
-
-module _ (t : Table) (sound : IsSound t) (old : LeaseRow) (here : IsIn old t.leases) where
-  itself_faded : IsFaded old old
-  itself_faded = record {
-    name = refl;
-    file = refl;
-    held = λ h. h;
-    needed = needs_less old old.breaking refl (each (λ l. states_agree l.held.0 l.breaking) t.leases sound.rows.leases_agree old here);
-  }
-
-  set_faded : (l : LeaseRow) → IsIn l t.leases → (y : LeaseRow) → IsFaded old y → IsFaded old (set_lease l.file l.name (needed_of l) None y)
-  unfolding set_lease
-  set_faded l i y is =
-      cond_both (is_lease l.file l.name y) (record y { held = needed_of l; breaking = None }) y (IsFaded old)
-      (λ e. let own : l ≡ old = one_in have_same_name (λ a b. Rattle.serial_table.proofs.SameIds.same_name-flip a.name b.name) t.leases sound.rows.leases_differ l old i here
-      (ap (λ n. same_name n old.name) (sym (same_name-eq y.name l.name (and_parts (y.file == l.file) (same_name y.name l.name) e).1) ∙ is.name) ∙ same_name-refl old.name) in
-      let less : has (needed_of l).0 2 ≡ true → has old.held.0 2 ≡ true = λ h. itself_faded.needed (ap (λ (x : LeaseRow). has (needed_of x).0 2) (sym own) ∙ h) in
-      record { name = is.name; file = is.file; held = less; needed = less })
-      (λ e. is)
-
-  all_faded : (rows : List LeaseRow) → ((l : LeaseRow) → IsIn l rows → IsIn l t.leases) → (y : LeaseRow) → IsFaded old y → IsFaded old (faded rows y)
-  all_faded [] there y is = is
-  all_faded (l ∷ ls) there y is = all_faded ls (λ k i. there k (inr i)) (set_lease l.file l.name (needed_of l) None y) (set_faded l (there l (inl refl)) y is)
-
 -- ---- what is left
 
-left_false : (a b : Bool) → (a || b) ≡ false → a ≡ false
-left_false a b h = false_from_ne_true a (λ e. both_ways (a || b) h (or_left a b e))
-
-module _ (t : Table) (sound : IsSound t) (settled : settle t ≡ t) (rows : List LeaseRow) (there : (l : LeaseRow) → IsIn l rows → IsIn l t.leases) (sound_after : IsSound (settle (expired rows t))) where
+module _ (t : Table) (sound : IsSound t) (settled : settle t ≡ t) (rows : List LeaseRow) (there : (l : LeaseRow) → IsIn l rows → IsIn l t.leases)
+    (fit : AllFit (then_settles (map expires rows)) t) (sound_after : IsSound (settle (expired rows t))) where
   abbrev v : View
   v = view t
 
@@ -250,14 +185,6 @@ module _ (t : Table) (sound : IsSound t) (settled : settle t ≡ t) (rows : List
   opens_are : b.opens ≡ filter stays t.opens
   unfolding settle_where
   opens_are = refl
-
-  ranges_are : b.ranges ≡ filter (range_stays (λ file. true) mid) t.ranges
-  unfolding settle_where
-  ranges_are = refl
-
-  leases_are : b.leases ≡ filter (lease_stays (λ file. true) mid) (map (lease_settles (λ file. true) mid) (map (faded rows) t.leases))
-  unfolding settle_where
-  leases_are = refl
 
   workers_are : b.workers ≡ t.workers
   unfolding settle_where
@@ -285,85 +212,10 @@ module _ (t : Table) (sound : IsSound t) (settled : settle t ≡ t) (rows : List
   file_opens : (file : ℕ) → w.opens_of file ≡ filter stays (v.opens_of file)
   file_opens file = ap (filter (is_of_file file)) opens_are ∙ filter-filter (is_of_file file) stays t.opens
 
-  open_was : (o : OpenRow) → IsIn o b.opens → IsIn o t.opens × (stays o ≡ true)
-  open_was o i = in_filter stays t.opens o (subst (IsIn o) opens_are i)
-
-  -- an open stays by what its file shows
-  stays_by : (file : ℕ) (o : OpenRow) → o.file ≡ file → stays o ≡ keeps_open (file_view file mid) (file_open (lives v) o)
-  stays_by file o e = ap (λ g. keeps_open (file_view g mid) (file_open (lives v) o)) e
-
-  open_gone : (o : OpenRow) → stays o ≡ false → lives w o.owner ≡ false
-  open_gone o e = lives_are o.owner ∙ left_false (lives v o.owner) (not (option_map_or (λ name. list_any (lacks_handle (file_view o.file mid)) ((file_view o.file mid).leases name)) o.lease false)) e
-
-  -- ---- ranges
-
-  module _ (file : ℕ) (r : RangeRow) (here : IsIn r t.ranges) (own : r.file ≡ file) where
-    -- a range that stays has its open
-    range_held : range_stays (λ file. true) mid r ≡ true → list_any (λ (o : OpenRow). same_id o.id r.id) (w.opens_of file) ≡ true
-    range_held e =
-        let o = one_of (λ o. (o.file == r.file) && same_id o.id r.id) b.opens
-        (each (has_its_open b.opens) b.ranges sound_after.rows.ranges_have_opens r (subst (IsIn r) (sym ranges_are) (passes_in (range_stays (λ file. true) mid) t.ranges r here e))) in
-        let p = and_parts (o.0.file == r.file) (same_id o.0.id r.id) o.2 in
-        any_of (λ (o : OpenRow). same_id o.id r.id) (w.opens_of file) o.0 (passes_in (is_of_file file) b.opens o.0 o.1 (ap (λ g. o.0.file == g) (sym own) ∙ p.0)) p.1
-
-    -- where its open stays, no open of its id goes
-    range_left : list_any (λ (o : OpenRow). same_id o.id r.id) (w.opens_of file) ≡ true → range_stays (λ file. true) mid r ≡ true
-    range_left e =
-        let f = file_view r.file mid in
-        let o = one_of (λ (o : OpenRow). same_id o.id r.id) (w.opens_of file) e in
-        let was = open_was o.0 (in_filter (is_of_file file) b.opens o.0 o.1).0 in
-        none_goes (list_any (λ q. same_id q.row.id r.id && not (keeps_open f q)) f.opens) (λ h.
-        let q = one_of (λ q. same_id q.row.id r.id && not (keeps_open f q)) f.opens h in
-        let row = in_map (file_open (lives mid)) (mid.opens_of r.file) q.0 q.1 in
-        let at = in_filter (is_of_file r.file) t.opens row.0 row.1 in
-        let p = and_parts (same_id row.0.id r.id) (not (keeps_open f (file_open (lives mid) row.0))) (ap (λ x. same_id x.row.id r.id && not (keeps_open f x)) row.2 ∙ q.2) in
-        let same : row.0 ≡ o.0 = one_in have_same_id (λ x y. id_flip x.id y.id) t.opens sound.rows.ids_differ row.0 o.0 at.0 was.0
-        (ap (λ i. same_id row.0.id i) (same_id-eq o.0.id r.id o.2) ∙ p.0) in
-        both_ways (stays row.0)
-        (stays_by r.file row.0 (eqb-true row.0.file r.file at.1) ∙ not_is (keeps_open f (file_open (lives mid) row.0)) p.1)
-        (ap stays same ∙ was.1))
-      where
-        none_goes : (x : Bool) → (x ≡ true → ⊥) → not x ≡ true
-        none_goes true h = absurd (h refl)
-        none_goes false h = refl
-
-        not_is : (x : Bool) → not x ≡ true → x ≡ false
-        not_is true h = absurd cc
-        not_is false h = refl
-
-        id_flip : (p q : OpenId) → same_id p q ≡ same_id q p
-        id_flip p q = λ m. eqb-flip p.pid q.pid m && eqb-flip p.call q.call m
-
-  file_ranges : (file : ℕ) → w.ranges_of file ≡ filter (λ r. list_any (λ (o : OpenRow). same_id o.id r.id) (w.opens_of file)) (v.ranges_of file)
-  file_ranges file =
-      ap (filter (is_range_of file)) ranges_are
-      ∙ filter-filter (is_range_of file) (range_stays (λ file. true) mid) t.ranges
-      ∙ filter_each (range_stays (λ file. true) mid) (λ r. list_any (λ (o : OpenRow). same_id o.id r.id) (w.opens_of file)) (v.ranges_of file) (λ r i.
-      let at = in_filter (is_range_of file) t.ranges r i in
-      let own = eqb-true r.file file at.1 in
-      same_test (range_stays (λ file. true) mid r) (list_any (λ (o : OpenRow). same_id o.id r.id) (w.opens_of file)) (range_held file r at.0 own) (range_left file r at.0 own))
-
-  -- ---- files that are to go
-
-  file_pending : (file : ℕ) → w.is_pending file ≡ (v.is_pending file && list_any (λ (o : OpenRow). true) (w.opens_of file))
-  unfolding settle_by_key
-  file_pending file =
-      ap (λ (x : View). x.is_pending file) (view-perform c.Settle (expired rows t))
-      ∙ ap (λ x. v.is_pending file && x)
-      (any_mapped (keeps_open (file_view file mid)) (file_open (lives v)) (v.opens_of file)
-      ∙ any_alike (λ o. keeps_open (file_view file mid) (file_open (lives v) o)) stays (v.opens_of file)
-      (all_by _ (v.opens_of file) (λ o i. sym (stays_by file o (eqb-true o.file file (in_filter (is_of_file file) t.opens o i).1))))
-      ∙ sym (any_filtered stays (v.opens_of file))
-      ∙ ap (list_any (λ (o : OpenRow). true)) (sym (file_opens file)))
-
-  pub fades_file : (file : ℕ) → LessFile file v w
-  fades_file file = record {
-    stays = stays;
-    opens = file_opens file;
-    gone = λ o i e. open_gone o e;
-    ranges = file_ranges file;
-    pending = file_pending file;
-  }
+  left : IsThinned (lives w) t b
+  left =
+      subst (λ alive. IsThinned alive t b) (λ i sid. sym (lives_are sid) i)
+      (subst (IsThinned (lives v) t) (settles_to rows t settled) (thinned (lives v) t (then_settles (map expires rows)) sound.rows fit (expiry_thin (lives v) t sound.rows rows there) (λ o i e. e)))
 
   -- ---- leases of names that none of these has
 
@@ -427,21 +279,6 @@ module _ (t : Table) (sound : IsSound t) (settled : settle t ≡ t) (rows : List
     pub fades_lease : exact_lease v name ≡ exact_lease w name
     fades_lease = exact_by (v.leases_of name) ∙ ap (lease_of w name) (sym leases_left)
 
-  -- ---- HANDLE
-
-  pub fades_handle : (file : ℕ) (name : LeaseName) (l : LeaseRow) → IsIn l (leases_at w name file) → has l.held.0 2 ≡ true → (old : LeaseRow) × IsIn old (leases_at v name file) × (has old.held.0 2 ≡ true)
-  fades_handle file name l i h =
-      let at = in_filter (λ (x : LeaseRow). x.file == file) (w.leases_of name) l i in
-      let named = in_filter (has_name name) b.leases l at.0 in
-      let kept = in_filter (lease_stays (λ file. true) mid) (map (lease_settles (λ file. true) mid) (map (faded rows) t.leases)) l (subst (IsIn l) leases_are named.0) in
-      let y = in_map (lease_settles (λ file. true) mid) (map (faded rows) t.leases) l kept.0 in
-      let old = in_map (faded rows) t.leases y.0 y.1 in
-      let is = subst (IsFaded old.0) y.2 (settled_faded (file_view y.0.file mid) old.0 y.0 (subst (IsFaded old.0) old.2 (all_faded t sound old.0 old.1 rows there old.0 (itself_faded t sound old.0 old.1)))) in (
-        old.0,
-        passes_in (λ (x : LeaseRow). x.file == file) (v.leases_of name) old.0 (passes_in (has_name name) t.leases old.0 old.1 (ap (λ n. same_name n name) (sym is.name) ∙ named.1)) (ap (λ g. g == file) (sym is.file) ∙ at.1),
-        is.held h,
-      )
-
   pub fades : (ps : List Place) → ((l : LeaseRow) → IsIn l rows → among (lease_place l.name) ps ≡ true) → Fades ps t b
   fades ps met = record {
     workers = workers_are;
@@ -449,8 +286,8 @@ module _ (t : Table) (sound : IsSound t) (settled : settle t ≡ t) (rows : List
     holds = holds_are;
     letters = letters_are;
     waiters = waiters_are;
-    opens = λ o i. (open_was o i).0;
-    files = fades_file;
+    opens = left.before;
+    files = less_file t b sound_after left;
     leases = λ name unmet. fades_lease name (λ l i. false_from_ne_true (same_name l.name name) (λ e. both_ways (among (lease_place name) ps) unmet (ap (λ n. among (lease_place n) ps) (sym (same_name-eq l.name name e)) ∙ met l i)));
-    handles = fades_handle;
+    handles = less_handles t b sound_after left;
   }

@@ -1,54 +1,39 @@
 -- Calls by a handle that decide on the file of the handle's open, and add no open.
-use Rattle.std.proofs.Common.{◌≡◌, ℕ, Bool, true, false, cond, ◌==◌, ◌&&◌, ◌||◌, List, [], ◌∷◌, ◌++◌, map, filter, Option, Some, None, refl, sym, ap, ◌∙◌, subst, inl, inr, ◌⊎◌}
-use Rattle.std.specs.List.{list_any, list_all, AllByRecursion, flat_map, filter_map}
+use Rattle.std.proofs.Common.{◌≡◌, ℕ, Bool, true, ◌==◌, List, [], ◌∷◌, Some, refl, sym, ap, ◌∙◌, subst, inl, inr}
+use Rattle.std.specs.List.{list_any, list_all, flat_map}
 use Rattle.std.specs.Option.{option_map_or}
-use Rattle.std.proofs.lemmas.Bool.{and_parts, and_from, eqb-true, eq-eqb}
+use Rattle.std.proofs.lemmas.Bool.{and_parts, eqb-true, eq-eqb}
 use Rattle.sid_core.specs.declared.call.Call.{Call}
-use Rattle.sid_core.specs.declared.entry.Entry.{Entry}
-use Rattle.sid_core.specs.declared.entry.Event.TheVariants.{Called}
-use Rattle.sid_core.specs.declared.ids.LeaseName.{LeaseName}
-use Rattle.sid_core.specs.declared.ids.Moment.{Moment}
 use Rattle.sid_core.specs.declared.ids.Sid.{Sid}
 use Rattle.sid_core.specs.declared.ids.Spot.{Spot}
-use Rattle.sid_core.specs.declared.ids.Spot.TheVariants.{OpenOf, RangesOf}
-use Rattle.sid_core.specs.declared.reply.Reply.{Reply}
 use Rattle.sid_core.specs.declared.setup.Setup.{Setup}
 use Rattle.sid_core.specs.declared.setup.WorkerInfo.{WorkerInfo}
-use Rattle.sid_core.specs.Setup.{IsSetup}
 use Rattle.sid_core.specs.Ids.{same_sid}
 use Rattle.serial_table.specs.declared.rows.OpenRow.{OpenRow}
 use Rattle.serial_table.specs.declared.rows.LeaseRow.{LeaseRow}
-use Rattle.serial_table.specs.declared.rows.Watch.{Watch}
 use Rattle.serial_table.specs.declared.table.Table.{Table}
 use Rattle.serial_table.specs.declared.decision.Caller.{Caller}
-use Rattle.serial_table.specs.declared.decision.Decision.{Decision}
-use Rattle.serial_table.specs.View.{View, view, is_of_file, is_of_handle, has_name}
+use Rattle.serial_table.specs.View.{view, is_of_file, is_of_handle}
 use Rattle.serial_table.specs.Settle.{settle}
 use Rattle.serial_table.specs.Change.{perform_all}
 use Rattle.serial_table.specs.Decision.{spots_of}
 use Rattle.serial_table.specs.Decide.{decide, outcome}
 use Rattle.serial_table.specs.Expire.{carried_by, names_at, names_beside, look, due, is_due}
-use Rattle.serial_table.specs.History.{after_event}
-use Rattle.serial_table.specs.Step.{caller_of, declared_at}
 use Rattle.serial_table.proofs.Names.{same_sid-eq}
 use Rattle.serial_table.proofs.Members.{IsIn, all_of, any_of, one_of, in_filter, in_flat_map, passes_in}
-use Rattle.serial_table.proofs.Callers.{IsCallerOf, is_caller_of}
 use Rattle.chain_map.specs.declared.db.Db.TheVariants as db
-use Rattle.record_codec.specs.declared.open_rec.OpenRec.{OpenRec}
 use Rattle.record_codec.specs.OpenRec.{open_rec}
 use Rattle.stored_table.specs.Keys.{open_key, pid_key, file_key}
-use Rattle.stored_table.specs.Places.{Chains, Place, place, among}
+use Rattle.stored_table.specs.Places.{Chains, Place, among}
 use Rattle.stored_table.specs.Decoded.{AllRecords, records_of}
-use Rattle.stored_table.specs.Met.{KeyList, met, met_by_call, met_by_event, met_by_handle, all_met, named_at, file_of, nothing_met, record_at}
-use Rattle.stored_table.specs.Move.{move, added, places_written, places_written_by}
-use Rattle.stored_table.specs.Moved.{moved}
+use Rattle.stored_table.specs.Met.{KeyList, met_by_handle, all_met, named_at, file_of, record_at}
 use Rattle.stored_table.specs.Stands.{AgreeWith, HasOpenRecords, StandsFor}
-use Rattle.table_laws.proofs.Contained.{share_place, ranges_place, mail_place, IsMetName, Contained}
+use Rattle.table_laws.proofs.Contained.{share_place, ranges_place, IsMetName, Contained}
 use Rattle.table_laws.proofs.Exactly.{in_opens}
 use Rattle.table_laws.proofs.Meets.{flat_mapped_in, files_written, leases_met, open_watcher_met, range_watcher_met}
 use Rattle.table_laws.proofs.Deciding.{AreWatchersMet, IsContained}
-use Rattle.table_laws.proofs.Chains.{IsFine, adds_no_open, old_opens, chains_stand}
-use Rattle.table_laws.proofs.Calls.{once_in, carried_in, lease_of_file, call_contained, call_opens, open_behind, after_call}
+use Rattle.table_laws.proofs.Chains.{IsFine, adds_no_open}
+use Rattle.table_laws.proofs.Calls.{once_in, carried_in, lease_of_file, call_contained, call_opens, open_behind}
 
 module _ (setup : Setup) (n : ℕ) (k : Chains) (t : Table) (stands : StandsFor setup n k (view t)) (fine : IsFine setup t) (settled : settle t ≡ t)
     (caller : Caller) (info : WorkerInfo) (pid : caller.sid.pid ≡ info.pid) (handle : ℕ) where

@@ -1,11 +1,10 @@
 -- `close`, `delete`, `unlock` and `read` keep what the databases stand for.
-use Rattle.std.proofs.Common.{◌≡◌, ℕ, Bool, true, false, cond, not, ◌==◌, ◌&&◌, ◌||◌, List, [], ◌∷◌, ◌++◌, Option, Some, None, refl, sym, ap, ◌∙◌, subst, inl, inr}
+use Rattle.std.proofs.Common.{◌≡◌, ℕ, Bool, true, not, ◌==◌, List, [], ◌∷◌, ◌++◌, Option, Some, None, refl, sym, ap, ◌∙◌, subst, inl}
 use Rattle.std.specs.List.{list_any, list_all}
 use Rattle.std.specs.Option.{option_map, option_map_or}
 use Rattle.std.proofs.lemmas.Bool.{and_from, cond_both}
 use Rattle.sid_core.specs.declared.call.Call.{Call}
 use Rattle.sid_core.specs.declared.call.Call.TheVariants as call
-use Rattle.sid_core.specs.declared.call.Mode.{Mode}
 use Rattle.sid_core.specs.declared.call.Span.{Span}
 use Rattle.sid_core.specs.declared.entry.Entry.{Entry}
 use Rattle.sid_core.specs.declared.entry.Event.TheVariants.{Called}
@@ -18,26 +17,23 @@ use Rattle.sid_core.specs.Setup.{IsSetup}
 use Rattle.sid_core.specs.Values.{has}
 use Rattle.serial_table.specs.declared.rows.OpenRow.{OpenRow}
 use Rattle.serial_table.specs.declared.table.Table.{Table}
-use Rattle.serial_table.specs.declared.change.Change.{Change}
-use Rattle.serial_table.specs.declared.change.Change.TheVariants as c
 use Rattle.serial_table.specs.declared.decision.Caller.{Caller}
 use Rattle.serial_table.specs.declared.decision.Decision.{Decision}
 use Rattle.serial_table.specs.View.{View, view}
-use Rattle.serial_table.specs.File.{FileView, file_view}
+use Rattle.serial_table.specs.File.{file_view}
 use Rattle.serial_table.specs.Settle.{settle}
 use Rattle.serial_table.specs.Change.{perform_all}
-use Rattle.serial_table.specs.Decision.{Outcome, only_reply, spots_of}
-use Rattle.serial_table.specs.Decide.{decide, outcome}
-use Rattle.serial_table.specs.Expire.{look, names_beside, expired_by}
-use Rattle.serial_table.specs.Close.{close_open, close_first, close}
-use Rattle.serial_table.specs.Delete.{delete_file, delete_first, delete}
-use Rattle.serial_table.specs.Unlock.{drop_range, unlock_range, unlock_first, unlock}
-use Rattle.serial_table.specs.ReadWrite.{if_allowed, forbids_read, read_file, read_first, read}
+use Rattle.serial_table.specs.Decision.{only_reply}
+use Rattle.serial_table.specs.Decide.{outcome}
+use Rattle.serial_table.specs.Close.{close_first, close}
+use Rattle.serial_table.specs.Delete.{delete_first, delete}
+use Rattle.serial_table.specs.Unlock.{unlock_first, unlock}
+use Rattle.serial_table.specs.ReadWrite.{forbids_read, read_first, read}
 use Rattle.serial_table.specs.Range.{passes_end}
-use Rattle.serial_table.specs.History.{start, after, after_all, after_entry, after_event, IsLegal, IsLegalCall}
+use Rattle.serial_table.specs.History.{start, after, after_event, IsLegal, IsLegalCall}
 use Rattle.serial_table.specs.Step.{caller_of, declared_at}
 use Rattle.serial_table.proofs.Members.{IsIn}
-use Rattle.serial_table.proofs.Callers.{IsCallerOf, is_caller_of}
+use Rattle.serial_table.proofs.Callers.{is_caller_of}
 use Rattle.serial_table.proofs.Along.{legal_before}
 use Rattle.serial_table.proofs.Alike.{after_all-append}
 use Rattle.serial_table.proofs.Concluding.{start-settled}
@@ -46,9 +42,9 @@ use Rattle.serial_table.proofs.CloseOwed.{of_close}
 use Rattle.serial_table.proofs.DeleteOwed.{of_delete}
 use Rattle.serial_table.proofs.UnlockOwed.{by_ranges}
 use Rattle.stored_table.specs.Places.{Chains, Place}
-use Rattle.stored_table.specs.Decoded.{AllRecords, records_of}
-use Rattle.stored_table.specs.Met.{Met, met_by_call, met_by_handle, all_met, nothing_met}
-use Rattle.stored_table.specs.Move.{AddedOpen, move, added, places_written}
+use Rattle.stored_table.specs.Decoded.{records_of}
+use Rattle.stored_table.specs.Met.{met_by_call, met_by_handle, all_met, nothing_met}
+use Rattle.stored_table.specs.Move.{move, added, places_written}
 use Rattle.stored_table.specs.Moved.{moved}
 use Rattle.stored_table.specs.Stands.{HasOpenRecords, StandsFor}
 use Rattle.table_laws.specs.Standing.{KeepsStanding}

@@ -109,7 +109,7 @@ module _ (setup : Setup) (ps : List Place) (s : AllRecords) (t u : Table) (sound
   worker_stays : (pid : ℕ) → w.worker_of pid ≡ v.worker_of pid
   worker_stays pid = ap (find (has_pid pid)) c.workers
 
-  pub living_stays : (sid : Sid) → table.lives w sid ≡ table.lives v sid
+  living_stays : (sid : Sid) → table.lives w sid ≡ table.lives v sid
   living_stays sid = ap (λ o. option_map_or (λ (worker : WorkerRow). worker.alive && (worker.session == sid.session)) o false) (worker_stays sid.pid)
 
   same_ranges : (file : ℕ) → filter (λ r. list_any (λ o. same_id o.id r.id) (w.opens_of file)) (w.ranges_of file) ≡ w.ranges_of file

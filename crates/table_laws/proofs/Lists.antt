@@ -1,8 +1,7 @@
 -- Lists, and what is known of each of their items.
-use Rattle.std.proofs.Common.{◌≡◌, Bool, true, false, cond, ◌&&◌, ◌||◌, List, [], ◌∷◌, ◌++◌, map, filter, refl, sym, ap, ◌∙◌, inl, inr, ◌⊎◌, subst}
-use Rattle.std.specs.List.{AllByRecursion, list_any, flat_map}
-use Rattle.std.proofs.lemmas.Bool.{both_ways, and_parts, and_from}
-use Rattle.serial_table.proofs.Members.{IsIn, any_of, one_of, none_of, any_none, in_filter, passes_in}
+use Rattle.std.proofs.Common.{◌≡◌, Bool, true, false, cond, ◌&&◌, ◌||◌, List, [], ◌∷◌, ◌++◌, map, filter, refl, sym, ap, ◌∙◌, inl, inr}
+use Rattle.std.specs.List.{AllByRecursion, list_any}
+use Rattle.serial_table.proofs.Members.{IsIn}
 
 module _ {X : Type 0} where
   pub all_mapped : (P Q : X → Type 0) → ((x : X) → P x → Q x) → (xs : List X) → AllByRecursion P xs → AllByRecursion Q xs

@@ -1,10 +1,9 @@
 -- `gunlock` keeps what the databases stand for.
-use Rattle.std.proofs.Common.{◌≡◌, ℕ, Bool, true, false, cond, ◌&&◌, List, [], ◌∷◌, ◌++◌, map, filter, Option, Some, None, refl, sym, ap, ◌∙◌, subst, inl, inr}
+use Rattle.std.proofs.Common.{◌≡◌, ℕ, Bool, true, List, [], ◌∷◌, ◌++◌, filter, refl, sym, ap, ◌∙◌, subst, inl, inr}
 use Rattle.std.specs.List.{list_all}
 use Rattle.std.specs.Option.{option_map_or}
 use Rattle.std.proofs.lemmas.Bool.{and_from}
 use Rattle.std.proofs.lemmas.List.Folds.{list_all-append, list_all-map}
-use Rattle.sid_core.specs.declared.call.Call.{Call}
 use Rattle.sid_core.specs.declared.call.Call.TheVariants as call
 use Rattle.sid_core.specs.declared.entry.Entry.{Entry}
 use Rattle.sid_core.specs.declared.ids.Moment.{Moment}
@@ -12,29 +11,24 @@ use Rattle.sid_core.specs.declared.ids.Sid.{Sid}
 use Rattle.sid_core.specs.declared.ids.Spot.{Spot}
 use Rattle.sid_core.specs.declared.ids.Spot.TheVariants.{LockOf}
 use Rattle.sid_core.specs.declared.reply.Reply.{Reply}
-use Rattle.sid_core.specs.declared.reply.Reply.TheVariants.{Done, ObjectNameNotFound}
+use Rattle.sid_core.specs.declared.reply.Reply.TheVariants.{ObjectNameNotFound}
 use Rattle.sid_core.specs.declared.setup.Setup.{Setup}
-use Rattle.sid_core.specs.declared.setup.WorkerInfo.{WorkerInfo}
 use Rattle.sid_core.specs.Setup.{IsSetup}
 use Rattle.sid_core.specs.Ids.{same_sid}
 use Rattle.serial_table.specs.declared.rows.HoldRow.{HoldRow}
 use Rattle.serial_table.specs.declared.rows.Watch.{Watch}
 use Rattle.serial_table.specs.declared.table.Table.{Table}
 use Rattle.serial_table.specs.declared.change.Change.{Change}
-use Rattle.serial_table.specs.declared.change.Change.TheVariants as c
 use Rattle.serial_table.specs.declared.decision.Caller.{Caller}
 use Rattle.serial_table.specs.declared.decision.Decision.{Decision}
-use Rattle.serial_table.specs.View.{View, view}
+use Rattle.serial_table.specs.View.{view}
 use Rattle.serial_table.specs.Change.{perform_all}
-use Rattle.serial_table.specs.Decide.{decide}
-use Rattle.serial_table.specs.Decision.{only_reply, waits_no_more, own_waits_end, no_longer_waits}
+use Rattle.serial_table.specs.Decision.{waits_no_more, own_waits_end, no_longer_waits}
 use Rattle.serial_table.specs.Expire.{expired_by}
 use Rattle.serial_table.specs.GlobalLock.{own_holds, gunlock_by, gunlock}
 use Rattle.serial_table.specs.History.{after, IsLegal}
-use Rattle.serial_table.specs.Step.{declared_at}
 use Rattle.serial_table.proofs.Names.{same_sid-eq}
 use Rattle.serial_table.proofs.Members.{IsIn, all_each, in_filter}
-use Rattle.serial_table.proofs.Every.{all_pass}
 use Rattle.stored_table.specs.Keys.{pid_key, lock_key}
 use Rattle.stored_table.specs.Places.{Chains, Place, among}
 use Rattle.stored_table.specs.Decoded.{AllRecords, records_of}

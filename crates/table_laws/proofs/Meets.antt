@@ -1,11 +1,8 @@
 -- What is written by an entry that meets certain files, locks, names and workers: the records of all owners, leases and watchers there.
-use Rattle.std.proofs.Common.{◌≡◌, ℕ, Bool, true, false, cond, ◌&&◌, ◌||◌, List, [], ◌∷◌, ◌++◌, map, filter, Option, Some, None, refl, sym, ap, ◌∙◌, subst, inl, inr, ◌⊎◌}
-use Rattle.std.specs.Prelude.{IfSome}
-use Rattle.std.specs.List.{flat_map, list_any}
+use Rattle.std.proofs.Common.{◌≡◌, ℕ, true, List, [], ◌∷◌, ◌++◌, map, filter, Option, Some, None, refl, sym, ap, ◌∙◌, subst, inl, inr}
+use Rattle.std.specs.List.{flat_map}
 use Rattle.std.specs.Option.{option_map_or, option_and_then}
-use Rattle.sid_core.specs.declared.ids.Sid.{Sid}
 use Rattle.sid_core.specs.declared.ids.LeaseName.{LeaseName}
-use Rattle.sid_core.specs.declared.ids.Spot.{Spot}
 use Rattle.sid_core.specs.declared.ids.Spot.TheVariants.{OpenOf, RangesOf, LockOf}
 use Rattle.sid_core.specs.declared.setup.Setup.{Setup}
 use Rattle.serial_table.specs.declared.rows.OpenRow.{OpenRow}
@@ -17,7 +14,6 @@ use Rattle.serial_table.specs.File.{FileView}
 use Rattle.serial_table.specs.Sound.{IsSound}
 use Rattle.serial_table.specs.InSets.{IsInSets}
 use Rattle.serial_table.proofs.Members.{IsIn, any_of, old_in, in_filter, in_map, mapped_in}
-use Rattle.chain_map.specs.declared.db.Db.{Db}
 use Rattle.chain_map.specs.declared.db.Db.TheVariants as db
 use Rattle.record_codec.specs.declared.watch.WatchRec.{WatchRec}
 use Rattle.record_codec.specs.declared.glock_rec.GLockRec.{GLockRec}
@@ -35,12 +31,11 @@ use Rattle.stored_table.specs.Decoded.{AllRecords, deciding, records_of}
 use Rattle.record_rows.specs.Rows.{entry_of, hold_of, watch_of, watch_row}
 use Rattle.stored_table.specs.Exact.{unless_both_empty, exact_lock}
 use Rattle.stored_table.specs.Met.{KeyList, Met, places_in, exact_places, all_met, record_at, name_of_entry, names_in, entry_owners, watchers, met_owners, met_watchers, met_by_files}
-use Rattle.stored_table.specs.Shown.{part_of, valid_entries, open_watches, range_watches, shown}
+use Rattle.stored_table.specs.Shown.{part_of, open_watches, range_watches}
 use Rattle.stored_table.specs.Stands.{AgreeWith, clean_lock}
 use Rattle.stored_table.proofs.Writing.{same_itself}
 use Rattle.stored_table.proofs.Telling.{entries_are, file_tells}
 use Rattle.table_laws.proofs.Contained.{share_place, ranges_place, lock_place, lease_place, register_place, mail_place, IsMetName}
-use Rattle.table_laws.proofs.Exactly.{in_opens}
 
 part_first : {R A W : Type 0} (f : R → List A) (xs : List A) (ys : List W) (r : R) → f r ≡ xs → part_of f (unless_both_empty xs ys r) ≡ xs
 part_first f [] [] r e = refl

@@ -3,7 +3,7 @@
 -- The file's records, those of its leases and of the asked one, the caller's own, and those of the owners and watchers of all these are
 -- written whatever the call decides. All that it decides stays there. What expires before may be the asked lease of another file: that
 -- file's own records aren't written, and its disconnected opens under the lease then count no longer.
-use Rattle.std.proofs.Common.{◌≡◌, ℕ, ◌<◌, ◌≤◌, Bool, true, false, cond, not, ◌==◌, ◌&&◌, List, [], ◌∷◌, ◌++◌, filter, Option, Some, None, refl, sym, ap, ◌∙◌, subst, inl, inr, ◌⊎◌, arith}
+use Rattle.std.proofs.Common.{◌≡◌, ℕ, ◌≤◌, Bool, true, false, cond, not, ◌==◌, ◌&&◌, List, [], ◌∷◌, ◌++◌, filter, Option, Some, None, refl, sym, ap, ◌∙◌, subst, inl, inr, ◌⊎◌, arith, map}
 use Rattle.std.specs.Prelude.{IfSome}
 use Rattle.std.specs.List.{list_any, list_all, AllByRecursion, flat_map}
 use Rattle.std.specs.Option.{option_map, option_map_or, option_and_then}
@@ -48,14 +48,16 @@ use Rattle.serial_table.specs.Grant.{grant_lease, is_durable, new_open, grant_pl
 use Rattle.serial_table.specs.Open.{handle_breaks, other_breaks, wait_for_open, wait_or_grant, go_on, open_by, open_file}
 use Rattle.serial_table.specs.Decision.{Outcome, only_reply, spots_of, no_longer_waits, conclude}
 use Rattle.serial_table.specs.Decide.{decide, outcome}
-use Rattle.serial_table.specs.Expire.{carried_by, asked_names, look, due, is_due, expired_by}
+use Rattle.serial_table.specs.Expire.{carried_by, asked_names, look, due, is_due, expires, then_settles, expired_by}
 use Rattle.serial_table.specs.History.{start, after, IsLegal, IsLegalCall}
 use Rattle.serial_table.specs.Step.{caller_of, declared_at}
-use Rattle.serial_table.specs.Sound.{IsSound}
+use Rattle.serial_table.specs.Sound.{AllFit, AreBelow, IsSound}
 use Rattle.serial_table.specs.InSets.{IsInSets}
+use Rattle.serial_table.proofs.Entries.{call_is_new}
+use Rattle.serial_table.proofs.Living.{lives_among}
 use Rattle.serial_table.proofs.SameIds.{same_id-eq, same_name-eq}
 use Rattle.serial_table.proofs.Members.{IsIn, in_append, in_filter, in_flat_map, in_map, passes_in, some_same}
-use Rattle.serial_table.proofs.Along.{legal_before, along_before, rises_at}
+use Rattle.serial_table.proofs.Along.{legal_before}
 use Rattle.serial_table.proofs.Alike.{after_all-append}
 use Rattle.serial_table.proofs.Callers.{IsCallerOf, is_caller_of}
 use Rattle.serial_table.proofs.Concluding.{no_more_all, conclude_all, start-settled}
@@ -65,7 +67,6 @@ use Rattle.serial_table.proofs.ExpiringFits.{expired_fits}
 use Rattle.serial_table.proofs.GrantOwed.{of_lease}
 use Rattle.serial_table.proofs.InSets.{sid_of}
 use Rattle.serial_table.proofs.SettledSound.{settled-sound}
-use Rattle.serial_table.proofs.Soundness.{IsReached, expiries_reach, calls_reach, deaths_reach, start_reached}
 use Rattle.chain_map.specs.declared.db.Db.TheVariants as db
 use Rattle.stored_table.specs.Keys.{open_key, pid_key, name_key, file_key}
 use Rattle.stored_table.specs.Places.{Chains, Place, place, among}
@@ -76,7 +77,7 @@ use Rattle.stored_table.specs.Moved.{moved}
 use Rattle.stored_table.specs.Stands.{AgreeWith, HasOpenRecords, StandsFor}
 use Rattle.table_laws.specs.Standing.{IsUnwatched, KeepsStandingIfNew}
 use Rattle.table_laws.proofs.Contained.{share_place, ranges_place, lease_place, register_place, mail_place, IsMetName, Contained}
-use Rattle.table_laws.proofs.Lessened.{Lessened, lessened, living_stays}
+use Rattle.table_laws.proofs.Lessened.{Lessened, lessened}
 use Rattle.table_laws.proofs.Fading.{Fades, expired, settles_to, fades, lessened_behind}
 use Rattle.table_laws.proofs.Exactly.{in_opens}
 use Rattle.table_laws.proofs.Meets.{is_among, own_mail, name_met, files_written, leases_met, owner_register, owner_mail, open_watcher_met, range_watcher_met}
@@ -84,7 +85,8 @@ use Rattle.table_laws.proofs.Touching.{touches, reaches, meets_name, contained}
 use Rattle.table_laws.proofs.Deciding.{adds_no_waiter, watch_before, AreContained, AreWatchersMet, IsContained, reply_contained, concluded}
 use Rattle.table_laws.proofs.Breaking.{AreBreaks, OwnersHave, no_breaks, both_breaks, each_breaks, open_in, breaks_touch, breaks_reach, breaks_wait, breaks_open}
 use Rattle.table_laws.proofs.Chains.{IsFine, legal_is_fine, legal_start, adds_no_open, old_opens, chains_stand_less}
-use Rattle.table_laws.proofs.OpenRecords.{IsOwnOpen, IsNewNumber, opens_from, added_opens}
+use Rattle.table_laws.proofs.AddedOpens.{IsNewNumber, new_above}
+use Rattle.table_laws.proofs.OpenRecords.{IsOwnOpen, opens_from, added_opens}
 use Rattle.table_laws.proofs.Calls.{once_in, carried_in, after_call}
 use Rattle.table_laws.proofs.HandleEvents.{entry}
 use Rattle.table_laws.proofs.LockEvents.{after_own_waits}
@@ -275,6 +277,10 @@ module _ (setup : Setup) (n : ℕ) (k : Chains) (t : Table) (stands : StandsFor 
     unfolding expired_by
     behind_is = settles_to rows t settled
 
+    rows_fit : AllFit (then_settles (map expires rows)) t
+    unfolding expired_by
+    rows_fit = expired_fits setup t caller which fine.sound.rows
+
     pub behind_settled : settle behind ≡ behind
     behind_settled = expired_settled setup t caller which settled
 
@@ -284,7 +290,7 @@ module _ (setup : Setup) (n : ℕ) (k : Chains) (t : Table) (stands : StandsFor 
     pub behind_fades : Fades open_places t behind
     behind_fades =
         subst (Fades open_places t) (sym behind_is)
-        (fades t fine.sound settled rows (λ l i. (due_there t caller.moment (look setup (view t) caller which) l i).0) (subst IsSound behind_is behind_sound) open_places row_met)
+        (fades t fine.sound settled rows (λ l i. (due_there t caller.moment (look setup (view t) caller which) l i).0) rows_fit (subst IsSound behind_is behind_sound) open_places row_met)
 
     watch_was : (spot : Spot) (y : Watch) → IsIn y ((view behind).watches_on spot) → IsIn y ((view t).watches_on spot)
     watch_was spot y i = watch_before (expired_by setup (view t) caller which) t spot y (expired_all adds_no_waiter (λ l. refl) refl setup (view t) caller which) i
@@ -453,9 +459,7 @@ module _ (setup : Setup) (n : ℕ) (k : Chains) (t : Table) (stands : StandsFor 
           are_contained.touched are_contained.reached are_contained.new
 
       pub open_lessens : Lessened setup open_places s t end
-      open_lessens =
-          lessened_behind setup open_places s t behind end behind_fades (λ sid e. sym (living_stays setup open_places s behind end behind_sound sound_after later_contained sid) ∙ e)
-          (lessened setup open_places s behind end behind_sound sound_after later_contained)
+      open_lessens = lessened_behind setup open_places s t behind end behind_fades (λ sid e. ap (λ ws. lives_among ws sid) (sym later_contained.workers) ∙ e) (lessened setup open_places s behind end behind_sound sound_after later_contained)
 
       -- an open is an old one, or the call's own where it is granted
       pub opens_then : (o : OpenRow) → IsIn o end.opens → IsIn o t.opens ⊎ ((is_grant (decide setup (view behind) caller which).reply && is_own_open info.pid number file o) ≡ true)
@@ -526,21 +530,6 @@ module _ (setup : Setup) (n : ℕ) (is : IsSetup setup) (before : List Entry) (b
     small_number : IsU32 number
     small_number = let most : number ≤ 20000 = call_at.numbered.1 in omega arith
 
-    -- its number is above those of the worker's calls before
-    new_number : (info : WorkerInfo) → declared_at setup.workers by ≡ Some info → IsNewNumber info.pid number t
-    new_number info declared =
-        let goes = along_before setup is IsReached (expiries_reach setup) (calls_reach setup) (deaths_reach setup) (λ pid. 0) (start setup) before (open_entry ∷ []) (start_reached setup is)
-        (legal_start setup before open_entry legal).entries (λ worker info d. legal.rising worker) in
-        let above : goes.0 info.pid < number = rises_at (goes.0 info.pid) by number [] (by == by) refl (goes.2 by info declared) in
-        record {
-          ids = λ o i p e.
-              let few : o.id.call ≤ goes.0 o.id.pid = (goes.1.numbered.opens o i).id in
-              let same : goes.0 o.id.pid ≡ goes.0 info.pid = ap goes.0 p in absurd (omega (arith, few, same, above, e));
-          handles = λ o i p e.
-              let few : o.handle ≤ goes.0 o.owner.pid = (goes.1.numbered.opens o i).handle in
-              let same : goes.0 o.owner.pid ≡ goes.0 info.pid = ap goes.0 p in absurd (omega (arith, few, same, above, e));
-        }
-
     module _ (caller : Caller) (from : caller_of setup (view t) by number moment ≡ Some caller) (k : Chains) (stands : StandsFor setup n k (view t)) (fresh : IsUnwatched setup n k caller.sid caller.number) where
       of : IsCallerOf setup t by number moment caller
       of = is_caller_of setup t by number moment caller from
@@ -583,7 +572,7 @@ module _ (setup : Setup) (n : ℕ) (is : IsSetup setup) (before : List Entry) (b
       records_then g =
           let first = added_for (open_key of.info.pid number) ((view u).opens_of_id (record { pid = of.info.pid; call = number })) in
           let all = open_records setup ps (records_of setup n k) t u of.info.pid number file (record { agree = stands.agree; sound = fine.sound; sets = fine.sets }) small_pid small_number
-          (own_record_met setup n k t stands fine settled caller of.info of.pid of.guid_is number of.number_is file lease) (new_number of.info of.declared) (is_grant (decide setup (view b) caller opening).reply)
+          (own_record_met setup n k t stands fine settled caller of.info of.pid of.guid_is number of.number_is file lease) (new_above of.info.pid number t (subst (λ p. AreBelow number p t) of.pid (call_is_new setup before [] by seq number moment opening reply caller is legal from))) (is_grant (decide setup (view b) caller opening).reply)
           (opens_then setup n k t stands fine settled caller of.info of.pid of.guid_is number of.number_is file lease access share durable overwrite delete fresh fine_after.sound) g in
           subst (λ qs. AllByRecursion (HasOpenRecords (moved setup qs (added setup (view u) open_entry) (view u) (records_of setup n k))) ((view u).opens_of g)) (sym writes)
           (subst (λ a. AllByRecursion (HasOpenRecords (moved setup ps a (view u) (records_of setup n k))) ((view u).opens_of g))

@@ -1,5 +1,5 @@
 -- What counts of a record goes by the records that it reaches.
-use Rattle.std.proofs.Common.{◌≡◌, ℕ, zero, suc, Bool, true, false, cond, not, ◌&&◌, ◌||◌, eqb, List, [], ◌∷◌, ◌++◌, map, Option, Some, None, refl, sym, ap, ap₂, ◌∙◌}
+use Rattle.std.proofs.Common.{◌≡◌, ℕ, zero, suc, Bool, false, cond, not, ◌&&◌, ◌||◌, eqb, List, [], ◌∷◌, ◌++◌, map, Option, Some, None, refl, sym, ap, ◌∙◌}
 use Rattle.std.specs.Prelude.{IfSome}
 use Rattle.std.specs.List.{AllByRecursion, flat_map, list_any}
 use Rattle.std.specs.Option.{option_map_or}
@@ -16,18 +16,13 @@ use Rattle.serial_table.specs.View.{View}
 use Rattle.chain_map.specs.declared.db.Db.{Db}
 use Rattle.chain_map.specs.declared.db.Db.TheVariants as db
 use Rattle.record_codec.specs.declared.watch.WatchRec.{WatchRec}
-use Rattle.record_codec.specs.declared.open_rec.OpenRec.{OpenRec}
 use Rattle.record_codec.specs.declared.glock_rec.GLockRec.{GLockRec}
 use Rattle.record_codec.specs.declared.glock_rec.Hold.{Hold}
 use Rattle.record_codec.specs.declared.share_rec.ShareRec.{ShareRec}
 use Rattle.record_codec.specs.declared.share_rec.ShareEntry.{ShareEntry}
 use Rattle.record_codec.specs.declared.lease_rec.LeaseRec.{LeaseRec}
-use Rattle.record_codec.specs.declared.lease_rec.LeaseRef.{LeaseRef}
-use Rattle.record_codec.specs.declared.register_rec.RegisterRec.{RegisterRec}
 use Rattle.record_codec.specs.declared.range_rec.RangeRec.{RangeRec}
 use Rattle.record_codec.specs.declared.range_rec.RangeItem.{RangeItem}
-use Rattle.record_codec.specs.declared.mail_rec.MailRec.{MailRec}
-use Rattle.record_codec.specs.Codec.{Codec}
 use Rattle.record_codec.specs.OpenRec.{open_rec}
 use Rattle.record_codec.specs.GLockRec.{glock_rec}
 use Rattle.record_codec.specs.ShareRec.{share_rec}
@@ -35,7 +30,7 @@ use Rattle.record_codec.specs.LeaseRec.{lease_rec}
 use Rattle.record_codec.specs.RegisterRec.{register_rec}
 use Rattle.record_codec.specs.RangeRec.{range_rec}
 use Rattle.record_codec.specs.MailRec.{mail_rec}
-use Rattle.record_codec.specs.Counts.{Records, is_current, lives, hold_counts, mailbox_counts, has_token, has_token_at, watch_counts, register_watch_counts, is_connected, is_unanswered, settled_state, ref_counts, keeps, is_kept, entry_counts, pending_counts, entry_of_id_counts, id_counts, range_counts, open_counts}
+use Rattle.record_codec.specs.Counts.{Records, is_current, lives, hold_counts, has_token, has_token_at, watch_counts, register_watch_counts, is_connected, is_unanswered, settled_state, ref_counts, keeps, is_kept, entry_counts, entry_of_id_counts, id_counts, range_counts}
 use Rattle.stored_table.specs.Keys.{pid_key, name_key, file_key, pid_in, lock_in, file_in}
 use Rattle.stored_table.specs.Places.{Chains, Place, place, HasChains, among, value_at}
 use Rattle.stored_table.specs.Decoded.{decoded, deciding, records_of}
@@ -43,7 +38,7 @@ use Rattle.stored_table.specs.Met.{places_in, record_at, holders, watchers, entr
 use Rattle.stored_table.specs.Move.{move, added, is_by_old, new_at, places_written}
 use Rattle.stored_table.proofs.Meeting.{all_split, all_unmap}
 use Rattle.stored_table.proofs.Writing.{value_at-write_all}
-use Rattle.table_laws.specs.Reached.{decided_by, share_decided_by, reached, IsUnchanged, ReachesUnchanged, AllAlike, LockAlike, ShareAlike, LeaseAlike, RegisterAlike, RangesAlike, CountAlikeIn, SamePartsCount}
+use Rattle.table_laws.specs.Reached.{decided_by, share_decided_by, reached, IsUnchanged, ReachesUnchanged, AllAlike, LockAlike, ShareAlike, LeaseAlike, RangesAlike, CountAlikeIn, SamePartsCount}
 
 -- ---- lists
 

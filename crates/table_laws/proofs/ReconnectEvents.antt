@@ -72,7 +72,7 @@ use Rattle.table_laws.proofs.Touching.{touches, reaches, Along, along, same_wait
 use Rattle.table_laws.proofs.Deciding.{IsContained, none_new, adds_no_waiter, reply_contained}
 use Rattle.table_laws.proofs.Chains.{IsFine, legal_is_fine, legal_start, old_opens, chains_stand}
 use Rattle.table_laws.proofs.Calls.{once_in, carried_in, lease_of_file, call_contained, call_opens, open_behind, after_call}
-use Rattle.table_laws.proofs.AddedOpens.{IsTaken, added_opens}
+use Rattle.table_laws.proofs.AddedOpens.{IsNewNumber, new_above, IsTaken, added_opens}
 
 -- ---- an open is taken over
 
@@ -359,8 +359,8 @@ module _ (setup : Setup) (n : ℕ) (is : IsSetup setup) (before : List Entry) (b
       number_fits : number < 2 ^ 32
       number_fits = omega (arith, low.1)
 
-      below : AreBelow number info.pid t
-      below = subst (λ p. AreBelow number p t) own_pid (call_is_new setup before [] by seq number moment (Reconnect worker made key) reply caller is legal from)
+      new : IsNewNumber info.pid number t
+      new = new_above info.pid number t (subst (λ p. AreBelow number p t) own_pid (call_is_new setup before [] by seq number moment (Reconnect worker made key) reply caller is legal from))
 
       key_met : among (place db.Opens (open_key info.pid number)) ps ≡ true
       key_met = is_among (place db.Opens (open_key info.pid number)) ps (inr (inl refl))
@@ -379,14 +379,14 @@ module _ (setup : Setup) (n : ℕ) (is : IsSetup setup) (before : List Entry) (b
               ap record_of (sym h.now) ∙ (λ m. let r : OpenRec = record { id = same_id-eq h.row.id row.id p.1 m; file = eqb-true h.row.file row.file p.0 m } in r)
 
       abbrev From : OpenRow → Type 0
-      From o = IsTaken setup ps s t x stands.agree fine.sound fine.sets info.pid number pid_fits number_fits key_met below (record { id = row.id; file = row.file }) o
+      From o = IsTaken setup ps s t x stands.agree fine.sound fine.sets info.pid number pid_fits number_fits key_met new (record { id = row.id; file = row.file }) o
 
       -- each open has its records, with the one that is added
       opens_with : (value : OpenRec) → value ≡ record { id = row.id; file = row.file } → (file : ℕ)
           → AllByRecursion (HasOpenRecords (moved setup ps (Some (record { key = open_key info.pid number; value = value })) (view x) s)) ((view x).opens_of file)
       opens_with value e file =
           subst (λ r. AllByRecursion (HasOpenRecords (moved setup ps (Some (record { key = open_key info.pid number; value = r })) (view x) s)) ((view x).opens_of file)) (sym e)
-          (added_opens setup ps s t x stands.agree fine.sound fine.sets info.pid number pid_fits number_fits key_met below (record { id = row.id; file = row.file }) (λ o i. by_new o (now_from o i)) file)
+          (added_opens setup ps s t x stands.agree fine.sound fine.sets info.pid number pid_fits number_fits key_met new (record { id = row.id; file = row.file }) (λ o i. by_new o (now_from o i)) file)
         where
           by_new : (o : OpenRow) → IsIn o t.opens ⊎ IsNewOwner setup ps s here t b row.file row.id caller.sid caller.number row_here first_along o → IsIn o t.opens ⊎ From o
           by_new o (inl i) = inl i

@@ -21,10 +21,8 @@ use Rattle.sid_core.specs.declared.reply.Reply.{Reply}
 use Rattle.sid_core.specs.declared.setup.Setup.{Setup}
 use Rattle.sid_core.specs.Setup.{IsSetup}
 use Rattle.sid_core.specs.Ids.{same_id}
-use Rattle.sid_core.specs.Values.{has}
 use Rattle.serial_table.specs.declared.rows.OpenRow.{OpenRow}
 use Rattle.serial_table.specs.declared.rows.LeaseRow.{LeaseRow}
-use Rattle.serial_table.specs.declared.rows.Breaking.{Breaking}
 use Rattle.serial_table.specs.declared.rows.HoldRow.{HoldRow}
 use Rattle.serial_table.specs.declared.rows.Watch.{Watch}
 use Rattle.serial_table.specs.declared.table.Table.{Table}
@@ -40,12 +38,12 @@ use Rattle.serial_table.specs.Decide.{decide, outcome}
 use Rattle.serial_table.specs.Decision.{Outcome, conclude, waits_no_more, spots_of, woken_by}
 use Rattle.serial_table.specs.Wake.{wake}
 use Rattle.serial_table.specs.Durable.{is_expired}
-use Rattle.serial_table.specs.Expire.{look, due, needed_of, expires, then_settles, expired_by}
+use Rattle.serial_table.specs.Expire.{look, due, expired_by}
 use Rattle.serial_table.specs.Scavenge.{files_of, has_expired, all_expired, goes, scavenge}
 use Rattle.serial_table.specs.Step.{caller_of, changes_of}
 use Rattle.serial_table.specs.History.{start, after, IsLegal, IsLegalCall}
-use Rattle.serial_table.specs.Sound.{AllFit, have_same_id, have_same_name, has_open, is_open_under, states_agree}
-use Rattle.serial_table.proofs.SameIds.{same_name-eq, same_name-flip, eqb-flip}
+use Rattle.serial_table.specs.Sound.{AllFit, have_same_id, has_open, is_open_under}
+use Rattle.serial_table.proofs.SameIds.{same_name-eq, eqb-flip}
 use Rattle.serial_table.proofs.Alike.{after_all-append}
 use Rattle.serial_table.proofs.Along.{legal_before}
 use Rattle.serial_table.proofs.Callers.{is_caller_of}
@@ -86,7 +84,7 @@ use Rattle.table_laws.proofs.KeysThere.{recorded_key}
 use Rattle.table_laws.proofs.Lessened.{Lessened}
 use Rattle.table_laws.proofs.LessEvents.{fine_before, fine_after, less_stands, drops_thin, sends_thin}
 use Rattle.table_laws.proofs.Meets.{later_in, flat_mapped_in, lease_met, mail_met}
-use Rattle.table_laws.proofs.Thinning.{Thins, IsThinned, needs_less, thinned, less_file, less_handles}
+use Rattle.table_laws.proofs.Thinning.{Thins, IsThinned, thinned, expiry_thin, less_file, less_handles}
 use Rattle.table_laws.proofs.Touching.{touches, reaches, IsNewIn, Along, along, waits_refl}
 
 -- what a record has is in its list
@@ -240,29 +238,10 @@ module _ (setup : Setup) (n : ℕ) (k : Chains) (t : Table) (stands : StandsFor 
 
   -- ---- what it leaves
 
-  -- what is needed of a lease has HANDLE only where what is held has it
-  expires_thin : (l : LeaseRow) → IsIn l t.leases → Thins (lives v) t (expires l)
-  expires_thin l i x j e h =
-      let same : x ≡ l = one_in have_same_name (λ a b. same_name-flip a.name b.name) t.leases fine.sound.rows.leases_differ x l j i (and_parts (x.file == l.file) _ e).1 in
-      subst (λ (y : LeaseRow). has y.held.0 2 ≡ true) (sym same) (needed l.breaking refl (each (λ (y : LeaseRow). states_agree y.held.0 y.breaking) t.leases fine.sound.rows.leases_agree l i) h)
-    where
-      needed : (o : Option Breaking) → l.breaking ≡ o → states_agree l.held.0 l.breaking ≡ true → has (needed_of l).0 2 ≡ true → has l.held.0 2 ≡ true
-      needed None e a h = ap (λ o. has (option_map_or (λ (b : Breaking). b.needed) o l.held).0 2) (sym e) ∙ h
-      needed (Some x) e a h = needs_less l.held.0 x (ap (states_agree l.held.0) (sym e) ∙ a) (ap (λ o. has (option_map_or (λ (b : Breaking). b.needed) o l.held).0 2) (sym e) ∙ h)
-
-  all_expire : (rows : List LeaseRow) → ((l : LeaseRow) → IsIn l rows → IsIn l t.leases) → AllByRecursion (Thins (lives v) t) (map expires rows)
-  all_expire [] h = tt
-  all_expire (l ∷ rows) h = (expires_thin l (h l (inl refl)), all_expire rows (λ x i. h x (inr i)))
-
-  then_thin : (cs : List Change) → AllByRecursion (Thins (lives v) t) cs → AllByRecursion (Thins (lives v) t) (then_settles cs)
-  then_thin [] a = tt
-  then_thin (change ∷ cs) a = all_joined (Thins (lives v) t) (change ∷ cs) (c.Settle ∷ []) a (tt, tt)
-
   first_thin : AllByRecursion (Thins (lives v) t) (expired_by setup v caller Scavenge)
   unfolding expired_by
   first_thin =
-      let rows = due v caller.moment (look setup v caller Scavenge) in
-      then_thin (map expires rows) (all_expire rows (λ l i. (due_there t caller.moment (look setup v caller Scavenge) l i).0))
+      expiry_thin (lives v) t fine.sound.rows (due v caller.moment (look setup v caller Scavenge)) (λ l i. (due_there t caller.moment (look setup v caller Scavenge) l i).0)
 
   left_first : IsThinned (lives v) t b
   left_first = thinned (lives v) t (expired_by setup v caller Scavenge) fine.sound.rows (expired_fits setup t caller Scavenge fine.sound.rows) first_thin (λ o i e. e)

@@ -91,7 +91,7 @@ module _ (sid : Sid) (moment : Moment) where
     next_workers = map (begin_session sid moment) (map (end_session sid) t.workers)
 
     -- the session that begins is none that its worker has had
-    not_had : has_had (view t) (next_sid sid) ≡ true → ⊥
+    pub not_had : has_had (view t) (next_sid sid) ≡ true → ⊥
     not_had e =
         let row = row_of t.workers sid alive in
         let low : sid.session + 1 ≤ row.0.session = leb-true (sid.session + 1) row.0.session (sym (ap (λ o. option_map_or (λ (worker : WorkerRow). nat_le (sid.session + 1) worker.session) o false) row.1.found) ∙ e) in

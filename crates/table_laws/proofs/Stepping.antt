@@ -86,7 +86,7 @@ then_thinned : {R : Type 0} (f g thin : R → Option R) (o : Option R) → ((r :
 then_thinned f g thin None h = refl
 then_thinned f g thin (Some r) h = h r refl
 
-part_first : {R A W : Type 0} (f : R → List A) (xs : List A) (ys : List W) (r : R) → f r ≡ xs → part_of f (unless_both_empty xs ys r) ≡ xs
+pub part_first : {R A W : Type 0} (f : R → List A) (xs : List A) (ys : List W) (r : R) → f r ≡ xs → part_of f (unless_both_empty xs ys r) ≡ xs
 part_first f [] [] r e = refl
 part_first f [] (y ∷ ys) r e = e
 part_first f (x ∷ xs) ys r e = e

@@ -1,6 +1,7 @@
 -- What is left of files and leases along changes after which opens go only whose owner lives no longer.
-use Rattle.std.proofs.Common.{◌≡◌, ℕ, Bool, true, false, cond, not, ◌==◌, ◌&&◌, ◌||◌, List, [], ◌∷◌, map, filter, Option, Some, None, refl, sym, ap, ◌∙◌, subst}
+use Rattle.std.proofs.Common.{◌≡◌, ℕ, Bool, true, false, cond, not, ◌==◌, ◌&&◌, ◌||◌, List, [], ◌∷◌, map, filter, Option, Some, None, refl, sym, ap, ◌∙◌, subst, inl, inr}
 use Rattle.std.specs.List.{list_any, AllByRecursion}
+use Rattle.std.specs.Option.{option_map_or}
 use Rattle.std.proofs.lemmas.Bool.{and_parts, and_from, or_parts, both_ways, cond_both, cond-true, eqb-true, false_from_ne_true, not_from_false, true_from_ne_false}
 use Rattle.std.proofs.Math.Bool.{and-false}
 use Rattle.sid_core.specs.declared.ids.Sid.{Sid}
@@ -18,16 +19,17 @@ use Rattle.serial_table.specs.declared.change.Change.TheVariants as c
 use Rattle.serial_table.specs.View.{View, view, lives, is_of_file, is_range_of, has_name, leases_at}
 use Rattle.serial_table.specs.File.{FileView, file_view, file_open, is_under}
 use Rattle.serial_table.specs.Settle.{settle_where, settle_by_key, broken_to_needed, settled_lease, keeps_open, keeps_range, row_stays, range_stays, lease_stays, lease_settles, pending_stays, keeps_pending}
+use Rattle.serial_table.specs.Expire.{needed_of, expires, then_settles}
 use Rattle.serial_table.specs.Change.{perform, perform_all, is_open, is_other_open, is_other_range, outlives, range_outlives, is_lease, set_lease}
-use Rattle.serial_table.specs.Sound.{IsConsistent, IsSound, AllFit, Fits, have_same_id, has_its_open, states_agree, breaks_well}
-use Rattle.serial_table.proofs.SameIds.{same_id-eq, eqb-flip}
+use Rattle.serial_table.specs.Sound.{IsConsistent, IsSound, AllFit, Fits, have_same_id, have_same_name, has_its_open, states_agree, breaks_well}
+use Rattle.serial_table.proofs.SameIds.{same_id-eq, same_name-flip, eqb-flip}
 use Rattle.serial_table.proofs.Names.{same_sid-eq}
 use Rattle.serial_table.proofs.Views.{name-settled_lease, file-settled_lease}
 use Rattle.serial_table.proofs.Filters.{filter-filter, any_filtered}
 use Rattle.serial_table.proofs.Living.{lives-end_session, lives-begin_session}
 use Rattle.serial_table.proofs.Consistent.{consistent-perform}
 use Rattle.serial_table.proofs.Members.{IsIn, each, any_of, one_of, any_none, in_filter, passes_in, in_map, one_in}
-use Rattle.table_laws.proofs.Lists.{filter_each, filter_every, filter_twice, any_mapped, same_test}
+use Rattle.table_laws.proofs.Lists.{all_joined, filter_each, filter_every, filter_twice, any_mapped, same_test}
 use Rattle.table_laws.proofs.Handles.{each_three, if_so}
 use Rattle.table_laws.proofs.Lessened.{LessFile, same_pending}
 
@@ -345,6 +347,30 @@ module _ (alive : Sid → Bool) (t : Table) where
     quiet = quiet;
     leases = itself t;
   })
+
+-- ---- leases that expire
+
+module _ (alive : Sid → Bool) (t : Table) (k : IsConsistent t) where
+  -- what is needed of a lease has HANDLE only where what is held has it
+  one_expires : (l : LeaseRow) → IsIn l t.leases → Thins alive t (expires l)
+  one_expires l i x j e h =
+      let same : x ≡ l = one_in have_same_name (λ a b. same_name-flip a.name b.name) t.leases k.leases_differ x l j i (and_parts (x.file == l.file) _ e).1 in
+      subst (λ (y : LeaseRow). has y.held.0 2 ≡ true) (sym same) (needed l.breaking refl (each (λ (y : LeaseRow). states_agree y.held.0 y.breaking) t.leases k.leases_agree l i) h)
+    where
+      needed : (o : Option Breaking) → l.breaking ≡ o → states_agree l.held.0 l.breaking ≡ true → has (needed_of l).0 2 ≡ true → has l.held.0 2 ≡ true
+      needed None e a h = ap (λ o. has (option_map_or (λ (b : Breaking). b.needed) o l.held).0 2) (sym e) ∙ h
+      needed (Some x) e a h = needs_less l.held.0 x (ap (states_agree l.held.0) (sym e) ∙ a) (ap (λ o. has (option_map_or (λ (b : Breaking). b.needed) o l.held).0 2) (sym e) ∙ h)
+
+  all_expire : (rows : List LeaseRow) → ((l : LeaseRow) → IsIn l rows → IsIn l t.leases) → AllByRecursion (Thins alive t) (map expires rows)
+  all_expire [] h = tt
+  all_expire (l ∷ rows) h = (one_expires l (h l (inl refl)), all_expire rows (λ x i. h x (inr i)))
+
+  then_thin : (cs : List Change) → AllByRecursion (Thins alive t) cs → AllByRecursion (Thins alive t) (then_settles cs)
+  then_thin [] a = tt
+  then_thin (change ∷ cs) a = all_joined (Thins alive t) (change ∷ cs) (c.Settle ∷ []) a (tt, tt)
+
+  pub expiry_thin : (rows : List LeaseRow) → ((l : LeaseRow) → IsIn l rows → IsIn l t.leases) → AllByRecursion (Thins alive t) (then_settles (map expires rows))
+  expiry_thin rows there = then_thin (map expires rows) (all_expire rows there)
 
 -- ---- as what is less of a table
 

@@ -1,12 +1,12 @@
 -- The tokens in exact mailboxes: a watch counts by them exactly where its session waits with its call.
-use Rattle.std.proofs.Common.{◌≡◌, ℕ, Bool, true, false, cond, ◌==◌, ◌&&◌, ◌||◌, List, [], ◌∷◌, ◌++◌, map, filter, find, Option, Some, None, refl, sym, ap, ◌∙◌, subst, inl, inr}
-use Rattle.std.specs.List.{list_any, list_all}
+use Rattle.std.proofs.Common.{◌≡◌, ℕ, Bool, true, false, cond, ◌==◌, ◌&&◌, List, [], ◌∷◌, map, filter, Option, Some, None, refl, sym, ap, ◌∙◌}
+use Rattle.std.specs.List.{list_any}
 use Rattle.std.specs.Option.{option_map_or, option_and_then}
-use Rattle.std.proofs.lemmas.Bool.{and_parts, and_from, and_left, and_right, both_ways, eqb-true, eq-eqb}
+use Rattle.std.proofs.lemmas.Bool.{and_parts, both_ways, eqb-true}
 use Rattle.std.proofs.Math.Bool.{and-false}
 use Rattle.sid_core.specs.declared.ids.Sid.{Sid}
 use Rattle.sid_core.specs.declared.ids.Spot.{Spot}
-use Rattle.sid_core.specs.Ids.{same_sid, same_spot}
+use Rattle.sid_core.specs.Ids.{same_spot}
 use Rattle.sid_core.specs.declared.entry.Letter.{Letter}
 use Rattle.serial_table.specs.declared.rows.WaiterRow.{WaiterRow}
 use Rattle.serial_table.specs.declared.rows.WorkerRow.{WorkerRow}
@@ -20,7 +20,7 @@ use Rattle.record_codec.specs.declared.mail_rec.MailRec.{MailRec}
 use Rattle.record_codec.specs.declared.mail_rec.Token.{Token}
 use Rattle.record_codec.specs.Counts.{has_token, has_token_at}
 use Rattle.record_rows.specs.Rows.{token_of}
-use Rattle.stored_table.specs.Exact.{is_empty, unless_both_empty, mail_record, mail_of_session, mail_if_alive, exact_mail}
+use Rattle.stored_table.specs.Exact.{mail_record, mail_of_session, mail_if_alive, exact_mail}
 use Rattle.table_laws.proofs.Lists.{any_mapped, any_in_filter}
 
 -- some token of the session's mailbox passes

@@ -1,6 +1,5 @@
 -- `glock` and `lock` keep what the databases stand for, where no register record watches the call yet.
-use Rattle.std.proofs.Common.{◌≡◌, ℕ, Bool, true, false, cond, not, ◌==◌, ◌&&◌, ◌||◌, List, [], ◌∷◌, ◌++◌, map, filter, find, Option, Some, None, refl, sym, ap, ◌∙◌, subst, inl, inr}
-use Rattle.std.specs.Prelude.{IfSome}
+use Rattle.std.proofs.Common.{◌≡◌, ℕ, Bool, true, false, cond, not, ◌==◌, ◌&&◌, List, [], ◌∷◌, ◌++◌, filter, find, Option, Some, None, refl, sym, ap, ◌∙◌, subst, inl, inr}
 use Rattle.std.specs.List.{list_any, list_all}
 use Rattle.std.specs.Option.{option_map_or}
 use Rattle.std.proofs.lemmas.Bool.{and_from, cond_both, eqb-true}
@@ -12,9 +11,9 @@ use Rattle.sid_core.specs.declared.entry.Entry.{Entry}
 use Rattle.sid_core.specs.declared.ids.Moment.{Moment}
 use Rattle.sid_core.specs.declared.ids.Sid.{Sid}
 use Rattle.sid_core.specs.declared.ids.Spot.{Spot}
-use Rattle.sid_core.specs.declared.ids.Spot.TheVariants.{LockOf, RangesOf}
+use Rattle.sid_core.specs.declared.ids.Spot.TheVariants.{LockOf}
 use Rattle.sid_core.specs.declared.reply.Reply.{Reply}
-use Rattle.sid_core.specs.declared.reply.Reply.TheVariants.{Granted, LockNotGranted, PossibleDeadlock, FileClosed, AccessDenied, InvalidLockRange}
+use Rattle.sid_core.specs.declared.reply.Reply.TheVariants.{LockNotGranted, PossibleDeadlock, FileClosed, AccessDenied, InvalidLockRange}
 use Rattle.sid_core.specs.declared.setup.Setup.{Setup}
 use Rattle.sid_core.specs.declared.setup.WorkerInfo.{WorkerInfo}
 use Rattle.sid_core.specs.Setup.{IsSetup}
@@ -24,23 +23,19 @@ use Rattle.serial_table.specs.declared.rows.HoldRow.{HoldRow}
 use Rattle.serial_table.specs.declared.rows.RangeRow.{RangeRow}
 use Rattle.serial_table.specs.declared.rows.Watch.{Watch}
 use Rattle.serial_table.specs.declared.table.Table.{Table}
-use Rattle.serial_table.specs.declared.change.Change.{Change}
 use Rattle.serial_table.specs.declared.change.Change.TheVariants as c
 use Rattle.serial_table.specs.declared.decision.Caller.{Caller}
 use Rattle.serial_table.specs.declared.decision.Decision.{Decision}
 use Rattle.serial_table.specs.View.{View, view, has_id}
 use Rattle.serial_table.specs.File.{FileView, FileOpen, file_view}
 use Rattle.serial_table.specs.Settle.{settle}
-use Rattle.serial_table.specs.Break.{Breaks, none_of_them, break_others}
-use Rattle.serial_table.specs.Change.{perform_all}
-use Rattle.serial_table.specs.Decide.{decide}
-use Rattle.serial_table.specs.Decision.{only_reply, spots_of}
+use Rattle.serial_table.specs.Break.{none_of_them, break_others}
+use Rattle.serial_table.specs.Decision.{only_reply}
 use Rattle.serial_table.specs.Expire.{expired_by}
-use Rattle.serial_table.specs.GlobalLock.{own_holds, other_holds, keeps_out, other_upgrades, granted_by, lock_waiter, wait_for_lock, lower, raise, change_hold, gain_hold, glock_by, glock}
-use Rattle.serial_table.specs.Lock.{grant_range, range_blocker, range_waiter, wait_for_range, lock_by, lock_range, lock_in, lock_first, lock}
-use Rattle.serial_table.specs.Range.{range_conflict, passes_end, range_of}
+use Rattle.serial_table.specs.GlobalLock.{own_holds, other_holds, keeps_out, other_upgrades, granted_by, wait_for_lock, lower, raise, change_hold, gain_hold, glock_by, glock}
+use Rattle.serial_table.specs.Lock.{grant_range, range_blocker, wait_for_range, lock_by, lock_range, lock_in, lock_first, lock}
+use Rattle.serial_table.specs.Range.{range_conflict, passes_end}
 use Rattle.serial_table.specs.History.{after, IsLegal}
-use Rattle.serial_table.specs.Step.{declared_at}
 use Rattle.serial_table.proofs.Members.{IsIn, in_filter, found_in}
 use Rattle.stored_table.specs.Keys.{open_key, pid_key, lock_key}
 use Rattle.stored_table.specs.Places.{Chains, Place, among}
@@ -50,15 +45,14 @@ use Rattle.stored_table.specs.Stands.{StandsFor}
 use Rattle.table_laws.specs.Standing.{IsUnwatched, KeepsStandingIfNew}
 use Rattle.table_laws.proofs.Contained.{lock_place, register_place, mail_place}
 use Rattle.table_laws.proofs.Exactly.{in_opens}
-use Rattle.table_laws.proofs.Meets.{own_mail, lock_here, lock_watcher_met, holder_met, owner_register, owner_mail, files_written, range_watcher_met}
-use Rattle.table_laws.proofs.Touching.{meets_waiter, IsNewWait}
+use Rattle.table_laws.proofs.Meets.{own_mail, lock_here, lock_watcher_met, holder_met, owner_register, files_written}
 use Rattle.table_laws.proofs.Deciding.{IsContained, reply_contained}
 use Rattle.table_laws.proofs.Chains.{IsFine, adds_no_open}
 use Rattle.table_laws.proofs.Calls.{call_contained, call_opens}
-use Rattle.table_laws.proofs.Breaking.{AreBreaks, OwnersHave, breaks_touch, breaks_reach, breaks_wait, breaks_open}
+use Rattle.table_laws.proofs.Breaking.{breaks_touch, breaks_reach, breaks_wait, breaks_open}
 use Rattle.table_laws.proofs.HandleCalls.{handle_places, here, files, behind, row_behind, open_was, own_file, file_met, spots_met, handle_contained, handle_opens}
 use Rattle.table_laws.proofs.HandleEvents.{entry, keeps_standing_with, writes_by}
-use Rattle.table_laws.proofs.WriteEvents.{owners_met, breaks_are}
+use Rattle.table_laws.proofs.WriteEvents.{breaks_are}
 use Rattle.table_laws.proofs.CallerEvents.{nowhere}
 use Rattle.table_laws.proofs.LockEvents.{after_own_waits, no_open_before}
 

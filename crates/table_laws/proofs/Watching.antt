@@ -1,16 +1,15 @@
 -- Watches in records that aren't written: those of waiters that went count no longer, the others as before.
-use Rattle.std.proofs.Common.{◌≡◌, ℕ, Bool, true, false, cond, ◌==◌, ◌&&◌, ◌||◌, List, [], ◌∷◌, ◌++◌, map, filter, find, Option, Some, None, refl, sym, ap, ◌∙◌, subst, inl, inr}
+use Rattle.std.proofs.Common.{◌≡◌, ℕ, Bool, true, false, ◌==◌, ◌&&◌, ◌||◌, List, [], ◌∷◌, ◌++◌, map, filter, Option, Some, None, refl, sym, ap, ◌∙◌, subst}
 use Rattle.std.specs.Prelude.{IfSome}
 use Rattle.std.specs.List.{list_any, AllByRecursion}
-use Rattle.std.specs.Option.{option_map_or, option_and_then}
-use Rattle.std.proofs.lemmas.Bool.{and_parts, and_from, and_right, or_from, both_ways, eqb-true, eq-eqb, true_from_ne_false, false_from_ne_true}
+use Rattle.std.specs.Option.{option_map_or}
+use Rattle.std.proofs.lemmas.Bool.{and_parts, and_from, and_right, both_ways, eqb-true, eq-eqb, true_from_ne_false, false_from_ne_true}
 use Rattle.sid_core.specs.declared.ids.Sid.{Sid}
 use Rattle.sid_core.specs.declared.ids.Spot.{Spot}
 use Rattle.sid_core.specs.declared.ids.Spot.TheVariants.{OpenOf, RangesOf, LockOf}
 use Rattle.sid_core.specs.declared.setup.Setup.{Setup}
 use Rattle.sid_core.specs.Ids.{same_sid, same_spot}
 use Rattle.serial_table.specs.declared.rows.WaiterRow.{WaiterRow}
-use Rattle.serial_table.specs.declared.rows.WorkerRow.{WorkerRow}
 use Rattle.serial_table.specs.declared.rows.Watch.{Watch}
 use Rattle.serial_table.specs.declared.table.Table.{Table}
 use Rattle.serial_table.specs.View as table
@@ -19,15 +18,15 @@ use Rattle.serial_table.specs.Sound.{IsSound}
 use Rattle.serial_table.proofs.Names.{same_sid-eq}
 use Rattle.serial_table.proofs.SameIds.{same_sid-refl}
 use Rattle.serial_table.proofs.Filters.{filter-filter}
-use Rattle.serial_table.proofs.Members.{IsIn, all_of, any_none, any_of, in_filter, in_map, found_in}
+use Rattle.serial_table.proofs.Members.{IsIn, all_of, any_none, any_of, in_filter, in_map}
 use Rattle.record_codec.specs.declared.watch.WatchRec.{WatchRec}
 use Rattle.record_codec.specs.Counts.{has_token, has_token_at}
-use Rattle.stored_table.specs.Places.{Place, place, among}
+use Rattle.stored_table.specs.Places.{Place, among}
 use Rattle.stored_table.specs.Decoded.{AllRecords}
-use Rattle.record_rows.specs.Rows.{watch_of, token_of}
-use Rattle.stored_table.specs.Exact.{mail_record, mail_of_session, mail_if_alive, exact_mail}
-use Rattle.table_laws.proofs.Lists.{filter_each, filter_every, filter_twice, filter_joined, filter_none, filter_mapped, any_in_filter, any_joined, any_alike, append_nothing}
-use Rattle.table_laws.proofs.Contained.{mail_place, register_place, spot_place, register_watchers, IsMetWaiter, WaitsStep}
+use Rattle.record_rows.specs.Rows.{watch_of}
+use Rattle.stored_table.specs.Exact.{exact_mail}
+use Rattle.table_laws.proofs.Lists.{filter_each, filter_twice, filter_joined, filter_none, filter_mapped, any_in_filter, any_joined, any_alike, append_nothing}
+use Rattle.table_laws.proofs.Contained.{mail_place, register_place, spot_place, register_watchers, WaitsStep}
 use Rattle.table_laws.proofs.Tokens.{counts_at, counts_anywhere}
 
 spot_is : (a b : Spot) → same_spot a b ≡ true → a ≡ b

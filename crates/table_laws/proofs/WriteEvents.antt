@@ -1,5 +1,5 @@
 -- `write` keeps what the databases stand for.
-use Rattle.std.proofs.Common.{◌≡◌, ℕ, Bool, true, false, cond, not, ◌==◌, ◌&&◌, ◌||◌, List, [], ◌∷◌, ◌++◌, map, filter, Option, Some, None, refl, sym, ap, ◌∙◌, subst, inl, inr}
+use Rattle.std.proofs.Common.{◌≡◌, ℕ, true, not, ◌==◌, List, [], ◌∷◌, ◌++◌, refl, subst, inl}
 use Rattle.std.specs.List.{list_any, list_all}
 use Rattle.std.proofs.lemmas.Bool.{cond_both}
 use Rattle.sid_core.specs.declared.call.Call.TheVariants as call
@@ -17,19 +17,18 @@ use Rattle.serial_table.specs.declared.rows.OpenRow.{OpenRow}
 use Rattle.serial_table.specs.declared.table.Table.{Table}
 use Rattle.serial_table.specs.declared.decision.Caller.{Caller}
 use Rattle.serial_table.specs.declared.decision.Decision.{Decision}
-use Rattle.serial_table.specs.View.{View, view, lives, is_of_file}
-use Rattle.serial_table.specs.File.{FileView, FileOpen, file_view, file_open}
+use Rattle.serial_table.specs.View.{view, lives, is_of_file}
+use Rattle.serial_table.specs.File.{FileOpen, file_view, file_open}
 use Rattle.serial_table.specs.Settle.{settle}
-use Rattle.serial_table.specs.Break.{Breaks, none_of_them, break_others}
+use Rattle.serial_table.specs.Break.{none_of_them, break_others}
 use Rattle.serial_table.specs.Decision.{only_reply}
-use Rattle.serial_table.specs.ReadWrite.{if_allowed, forbids_write, written, write_file, write_first, write}
+use Rattle.serial_table.specs.ReadWrite.{forbids_write, written, write_first, write}
 use Rattle.serial_table.specs.Range.{passes_end}
 use Rattle.serial_table.specs.History.{after, IsLegal}
-use Rattle.serial_table.specs.Step.{declared_at}
 use Rattle.serial_table.proofs.Members.{IsIn, in_filter, in_map}
 use Rattle.stored_table.specs.Keys.{open_key, pid_key}
-use Rattle.stored_table.specs.Places.{Chains, Place, among}
-use Rattle.stored_table.specs.Decoded.{AllRecords, records_of}
+use Rattle.stored_table.specs.Places.{Chains, among}
+use Rattle.stored_table.specs.Decoded.{records_of}
 use Rattle.stored_table.specs.Met.{met_by_handle, all_met}
 use Rattle.stored_table.specs.Stands.{StandsFor}
 use Rattle.table_laws.specs.Standing.{KeepsStanding}

@@ -19,6 +19,7 @@ use Rattle.stored_table.specs.Decoded.{AllRecords, records_of}
 use Rattle.stored_table.specs.Shown.{part_of}
 use Rattle.stored_table.specs.Places.{Chains}
 use Rattle.stored_table.specs.Move.{move}
+use Rattle.stored_table.specs.Histories.{moved_by}
 use Rattle.stored_table.specs.Stands.{StandsFor}
 
 -- Behind a history: whatever chains stand for the table there, what the entry makes of them stands for the table after it.
@@ -77,3 +78,15 @@ abbrev pub LegalKeepsStandingIfNew : Setup → ℕ → List Entry → ℕ → �
 LegalKeepsStandingIfNew setup n before by seq number moment call reply =
     IsSetup setup → IsLegal setup (before ++ call_entry by seq number moment call reply ∷ [])
     → KeepsStandingIfNew setup n before by number moment (call_entry by seq number moment call reply)
+
+-- ---- behind a history
+
+-- What a history makes of chains, as many per database, stands for its table.
+abbrev pub HistoryStands : Setup → ℕ → List Entry → Type 0
+HistoryStands setup n history = StandsFor setup n (moved_by setup n history) (view (after setup history))
+
+-- What records name behind a history: no register record watches the call that its caller makes next, and no record has a part of the
+-- session that follows the caller's.
+pub record NameNothingNew (setup : Setup) (n : ℕ) (before : List Entry) (caller : Caller) : Type 0 where
+  pub unwatched : IsUnwatched setup n (moved_by setup n before) caller.sid caller.number
+  pub unnamed : IsUnnamed (records_of setup n (moved_by setup n before)) (next_sid caller.sid)

@@ -1,9 +1,11 @@
 //! Laws of entries and of what they leave alone: each function does nothing, and its clause is the law.
 
-ghost use Rattle.std.specs.Prelude.{◌≡◌, ℕ, false, Bool, List, Option};
+ghost use Rattle.std.specs.Prelude.{◌≡◌, ℕ, ◌≤◌, false, Bool, List, [], ◌∷◌, ◌++◌, Option, Some};
 ghost use Rattle.sid_core.specs.declared.bits.Access.{Access};
 ghost use Rattle.sid_core.specs.declared.bits.LeaseState.{LeaseState};
 ghost use Rattle.sid_core.specs.declared.bits.Share.{Share};
+ghost use Rattle.sid_core.specs.Setup.{IsSetup};
+ghost use Rattle.sid_core.specs.declared.call.Call.{Call};
 ghost use Rattle.sid_core.specs.declared.call.Call.TheVariants as call;
 ghost use Rattle.sid_core.specs.declared.call.LeaseAsk.{LeaseAsk};
 ghost use Rattle.sid_core.specs.declared.call.Mode.{Mode};
@@ -14,11 +16,14 @@ ghost use Rattle.sid_core.specs.declared.entry.Event.TheVariants.{Died, Tidied};
 ghost use Rattle.sid_core.specs.declared.ids.Moment.{Moment};
 ghost use Rattle.sid_core.specs.declared.reply.Reply.{Reply};
 ghost use Rattle.sid_core.specs.declared.setup.Setup.{Setup};
-ghost use Rattle.serial_table.specs.View.{View};
+ghost use Rattle.serial_table.specs.History.{after, IsLegal};
+ghost use Rattle.serial_table.specs.Step.{caller_of};
+ghost use Rattle.serial_table.specs.View.{View, view};
+ghost use Rattle.serial_table.specs.declared.decision.Caller.{Caller};
 ghost use Rattle.stored_table.specs.Places.{Chains, Place, HasChains, among, value_at};
 ghost use Rattle.stored_table.specs.Move.{move, places_written};
 ghost use Rattle.table_laws.specs.Reached.{ReachesUnchanged, SamePartsCount};
-ghost use Rattle.table_laws.specs.Standing.{LegalKeepsStanding, LegalKeepsStandingIfNew, LegalKeepsStandingIfUnnamed, call_entry};
+ghost use Rattle.table_laws.specs.Standing.{HistoryStands, LegalKeepsStanding, LegalKeepsStandingIfNew, LegalKeepsStandingIfUnnamed, NameNothingNew, call_entry};
 
 /// What counts of a record goes by the records that it reaches: where these are the same in two databases, and the record itself is, the
 /// same parts of it count. So an entry that doesn't write a record, nor changes one that it reaches, leaves what counts of it, whatever the
@@ -105,4 +110,18 @@ pub fn scavenges_keep_standing()
 pub fn reconnects_keep_standing()
     ensures { (setup : Setup) (n : ℕ) (before : List Entry) (by seq number : ℕ) (moment : Moment) (worker made key : ℕ) (reply : Reply)
         → LegalKeepsStanding setup n before (call_entry by seq number moment (call.Reconnect worker made key) reply) }
+{}
+
+/// Behind a legal history that goes on with a call, the chains that the history makes name nothing that is yet to come: no register record
+/// watches that call, and no record has a part of the session that follows its caller's. So `open`, `glock`, `lock` and `disconnect` need no
+/// premise behind a history.
+pub fn records_name_nothing_new()
+    ensures { (setup : Setup) (n : ℕ) (before : List Entry) (by seq number : ℕ) (moment : Moment) (which : Call) (reply : Reply) → IsSetup setup → 1 ≤ n
+        → IsLegal setup (before ++ call_entry by seq number moment which reply ∷ []) → (caller : Caller) → caller_of setup (view (after setup before)) by number moment ≡ Some caller
+        → NameNothingNew setup n before caller }
+{}
+
+/// What a legal history makes of the first chains, with whatever number of chains per database, stands for the table after it.
+pub fn histories_stand()
+    ensures { (setup : Setup) (n : ℕ) (history : List Entry) → IsSetup setup → 1 ≤ n → IsLegal setup history → HistoryStands setup n history }
 {}

@@ -7,6 +7,6 @@ mod laws;
 pub use laws::{
     acknowledgements_keep_standing, calls_by_handle_keep_standing, calls_of_no_file_keep_standing,
     calls_that_wait_keep_standing, deaths_keep_standing, disconnects_keep_standing,
-    opens_keep_standing, reconnects_keep_standing, scavenges_keep_standing,
-    tidied_chains_keep_standing, what_counts_elsewhere_stays,
+    histories_stand, opens_keep_standing, reconnects_keep_standing, records_name_nothing_new,
+    scavenges_keep_standing, tidied_chains_keep_standing, what_counts_elsewhere_stays,
 };
