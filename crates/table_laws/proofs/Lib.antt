@@ -24,3 +24,7 @@ pub mod WriteEvents
 pub mod WaitEvents
 pub mod AckEvents
 pub mod OpenEvents
+pub mod Showing
+pub mod Footprints
+pub mod SameFiles
+pub mod HandleAnswers

@@ -17,6 +17,7 @@ ghost use Rattle.sid_core.specs.declared.setup.Setup.{Setup};
 ghost use Rattle.serial_table.specs.View.{View};
 ghost use Rattle.stored_table.specs.Places.{Chains, Place, HasChains, among, value_at};
 ghost use Rattle.stored_table.specs.Move.{move, places_written};
+ghost use Rattle.table_laws.specs.ByFootprint.{IsLegalByFootprint};
 ghost use Rattle.table_laws.specs.Reached.{ReachesUnchanged, SamePartsCount};
 ghost use Rattle.table_laws.specs.Standing.{LegalKeepsStanding, LegalKeepsStandingIfNew, call_entry};
 
@@ -81,4 +82,21 @@ pub fn opens_keep_standing()
 pub fn tidied_chains_keep_standing()
     ensures { (setup : Setup) (n : ℕ) (before : List Entry) (by seq chain : ℕ)
         → LegalKeepsStanding setup n before (record { by = by; seq = seq; what = Tidied chain }) }
+{}
+
+/// What is legal goes by the footprint alone: where two databases stand for the tables behind legal histories and agree on the footprint of
+/// a call by a handle, the same answer is legal at both.
+pub fn calls_by_handle_go_by_the_footprint()
+    ensures close { (setup : Setup) (n by seq number : ℕ) (moment : Moment) (handle : ℕ) (reply : Reply)
+        → IsLegalByFootprint setup n (call_entry by seq number moment (call.Close handle) reply) }
+    ensures delete { (setup : Setup) (n by seq number : ℕ) (moment : Moment) (handle : ℕ) (on : Bool) (reply : Reply)
+        → IsLegalByFootprint setup n (call_entry by seq number moment (call.Delete handle on) reply) }
+    ensures lock { (setup : Setup) (n by seq number : ℕ) (moment : Moment) (handle : ℕ) (span : Span) (mode : Mode) (wait : Bool) (reply : Reply)
+        → IsLegalByFootprint setup n (call_entry by seq number moment (call.Lock handle span mode wait) reply) }
+    ensures unlock { (setup : Setup) (n by seq number : ℕ) (moment : Moment) (handle : ℕ) (span : Span) (reply : Reply)
+        → IsLegalByFootprint setup n (call_entry by seq number moment (call.Unlock handle span) reply) }
+    ensures read { (setup : Setup) (n by seq number : ℕ) (moment : Moment) (handle : ℕ) (span : Span) (reply : Reply)
+        → IsLegalByFootprint setup n (call_entry by seq number moment (call.Read handle span) reply) }
+    ensures write { (setup : Setup) (n by seq number : ℕ) (moment : Moment) (handle : ℕ) (span : Span) (reply : Reply)
+        → IsLegalByFootprint setup n (call_entry by seq number moment (call.Write handle span) reply) }
 {}
