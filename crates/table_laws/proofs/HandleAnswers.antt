@@ -16,6 +16,7 @@ use Rattle.serial_table.specs.declared.rows.OpenRow.{OpenRow}
 use Rattle.serial_table.specs.declared.rows.WorkerRow.{WorkerRow}
 use Rattle.serial_table.specs.declared.table.Table.{Table}
 use Rattle.serial_table.specs.declared.decision.Caller.{Caller}
+use Rattle.serial_table.specs.declared.decision.Decision.{Decision}
 use Rattle.serial_table.specs.View.{View, view, has_pid, is_of_handle}
 use Rattle.serial_table.specs.File.{FileView, file_view}
 use Rattle.serial_table.specs.Change.{perform_all}
@@ -52,49 +53,9 @@ use Rattle.table_laws.proofs.Chains.{IsFine, legal_is_fine}
 use Rattle.table_laws.proofs.Exactly.{in_opens}
 use Rattle.table_laws.proofs.Meets.{flat_mapped_in}
 use Rattle.table_laws.proofs.Showing.{shown_same}
-use Rattle.table_laws.proofs.Footprints.{met_value, own_open_same, own_register_same, file_same}
+use Rattle.table_laws.proofs.Footprints.{own_open_same, own_register_same, file_same}
+use Rattle.table_laws.proofs.Answering.{legal_if}
 use Rattle.table_laws.proofs.SameFiles.{AreOfFile, behind_of_file, view_behind_same, rows_behind_same}
-
--- ---- who calls, by the register record
-
-abbrev told : RegisterRec → Bool × ℕ
-told r = (r.alive, r.session)
-
-abbrev told_row : WorkerRow → Bool × ℕ
-told_row row = (row.alive, row.session)
-
-told_clean : (r : Records) (o : Option RegisterRec) → option_map told (option_map (clean_register r) o) ≡ option_map told o
-told_clean r None = refl
-told_clean r (Some x) = refl
-
-told_exact : (v : View) (o : Option WorkerRow) → option_map told (option_map (register_record v) o) ≡ option_map told_row o
-told_exact v None = refl
-told_exact v (Some row) = refl
-
--- what the record tells of the worker
-told_worker : (setup : Setup) (s : AllRecords) (v : View) → AgreeWith setup s v → (pid : ℕ) → option_map told_row (v.worker_of pid) ≡ option_map told (s.register pid)
-told_worker setup s v agree pid = sym (told_exact v (v.worker_of pid)) ∙ ap (option_map told) (sym (agree.register pid)) ∙ told_clean (deciding s) (s.register pid)
-
-abbrev made : WorkerInfo → ℕ → Moment → Bool × ℕ → Option Caller
-made info number moment q = cond q.0 (Some (record { sid = record { pid = info.pid; session = q.1 }; guid = info.guid; number = number; moment = moment })) None
-
-made_by : (info : WorkerInfo) (number : ℕ) (moment : Moment) (o : Option WorkerRow) → ((row : WorkerRow) → o ≡ Some row → row.pid ≡ info.pid)
-    → option_and_then (caller_if_alive info number moment) o ≡ option_and_then (made info number moment) (option_map told_row o)
-made_by info number moment None h = refl
-made_by info number moment (Some row) h = λ i. cond row.alive (Some (record { sid = record { pid = h row refl i; session = row.session }; guid = info.guid; number = number; moment = moment })) None
-
-made_from : (info : WorkerInfo) (number : ℕ) (moment : Moment) (t : Table) → option_and_then (caller_if_alive info number moment) ((view t).worker_of info.pid) ≡ option_and_then (made info number moment) (option_map told_row ((view t).worker_of info.pid))
-made_from info number moment t = made_by info number moment ((view t).worker_of info.pid) (λ row e. eqb-true row.pid info.pid (found_in (has_pid info.pid) t.workers row e).1)
-
-pub caller_same : (setup : Setup) (s z : AllRecords) (t u : Table) → AgreeWith setup s (view t) → AgreeWith setup z (view u) → (by number : ℕ) (moment : Moment) (info : WorkerInfo) → declared_at setup.workers by ≡ Some info
-    → s.register info.pid ≡ z.register info.pid → caller_of setup (view t) by number moment ≡ caller_of setup (view u) by number moment
-unfolding caller_of
-caller_same setup s z t u agree agree_other by number moment info declared same =
-    ap (option_and_then (λ (info : WorkerInfo). option_and_then (caller_if_alive info number moment) ((view t).worker_of info.pid))) declared
-    ∙ made_from info number moment t
-    ∙ ap (option_and_then (made info number moment)) (told_worker setup s (view t) agree info.pid ∙ ap (option_map told) same ∙ sym (told_worker setup z (view u) agree_other info.pid))
-    ∙ sym (made_from info number moment u)
-    ∙ sym (ap (option_and_then (λ (info : WorkerInfo). option_and_then (caller_if_alive info number moment) ((view u).worker_of info.pid))) declared)
 
 -- ---- what a call by a handle goes by
 
@@ -167,6 +128,11 @@ no_rows setup s t agree sound sid pid handle own none =
     differ : (row : OpenRow) → ◌≡◌ {A = Option OpenRec} (Some (record { id = row.id; file = row.file })) None → ⊥
     differ row e = cc
 
+own_worker_same : (setup : Setup) (n : ℕ) (k j : Chains) (info : WorkerInfo) (handle : ℕ) → ((p : Place) → among p (all_met (met_by_handle setup n k info handle)) ≡ true → value_at n k p ≡ value_at n j p)
+    → (records_of setup n k).register info.pid ≡ (records_of setup n j).register info.pid
+own_worker_same setup n k j info handle same =
+    own_register_same setup n k j (open_key info.pid handle ∷ []) [] (named_at open_rec (file_of setup) n k db.Opens (open_key info.pid handle ∷ [])) [] (pid_key info.pid ∷ []) same info.pid (inl refl)
+
 module _ (setup : Setup) (n : ℕ) (k j : Chains) (t u : Table) (stands : StandsFor setup n k (view t)) (stands_other : StandsFor setup n j (view u)) (fine : IsFine setup t) (fine_other : IsFine setup u)
     (caller : Caller) (info : WorkerInfo) (pid : caller.sid.pid ≡ info.pid) (handle : ℕ)
     (same : (p : Place) → among p (all_met (met_by_handle setup n k info handle)) ≡ true → value_at n k p ≡ value_at n j p)
@@ -186,11 +152,8 @@ module _ (setup : Setup) (n : ℕ) (k j : Chains) (t u : Table) (stands : Stands
   abbrev own : KeyList
   own = pid_key info.pid ∷ []
 
-  pub own_worker_same : s.register info.pid ≡ z.register info.pid
-  own_worker_same = own_register_same setup n k j opens files [] own same info.pid (inl refl)
-
   handle_open_same : s.opens info.pid handle ≡ z.opens info.pid handle
-  handle_open_same = own_open_same setup n k j opens files [] own same info.pid handle (inl refl)
+  handle_open_same = own_open_same setup n k j opens [] files [] own same info.pid handle (inl refl)
 
   abbrev behind : Table
   behind = perform_all (expired_by setup (view t) caller which) t
@@ -217,7 +180,7 @@ module _ (setup : Setup) (n : ℕ) (k j : Chains) (t u : Table) (stands : Stands
       let of = file_of_record setup s t stands.agree fine.sound caller.sid info.pid handle pid r is in
       let of_other = file_of_record setup z u stands_other.agree fine_other.sound caller.sid info.pid handle pid r (sym handle_open_same ∙ is) in
       let shows : file_view r.file (view t) ≡ file_view r.file (view u) =
-      sym (file_tells setup s t stands.agree fine.sets fine.sound r.file) ∙ shown_same s z r.file (file_same setup n k j opens files [] own same r.file here) ∙ file_tells setup z u stands_other.agree fine_other.sets fine_other.sound r.file in
+      sym (file_tells setup s t stands.agree fine.sets fine.sound r.file) ∙ shown_same s z r.file (file_same setup n k j opens [] files [] own same r.file here) ∙ file_tells setup z u stands_other.agree fine_other.sets fine_other.sound r.file in
       let of_behind = behind_of_file setup caller handle r.file which looks t fine.sound of in
       let of_behind_other = behind_of_file setup caller handle r.file which looks u fine_other.sound of_other in
       let shows_behind : file_view r.file (view behind) ≡ file_view r.file (view behind_other) = view_behind_same setup caller handle r.file which looks t u fine.sound fine_other.sound of of_other shows in
@@ -233,38 +196,17 @@ module _ (setup : Setup) (n : ℕ) (k j : Chains) (t u : Table) (stands : Stands
 module _ (setup : Setup) (n by seq number : ℕ) (moment : Moment) (which : Call) (reply : Reply) (handle : ℕ)
     (meets : (k : Chains) (info : WorkerInfo) → met_by_call setup n k info number which ≡ met_by_handle setup n k info handle)
     (looks : (caller : Caller) (v : View) → look setup v caller which ≡ names_beside v (v.opens_of_handle caller.sid handle)) (goes : (caller : Caller) → GoesByHandle setup caller handle which) where
-  abbrev e : Entry
-  e = call_entry by seq number moment which reply
-
   legal_by : IsLegalByFootprint setup n (call_entry by seq number moment which reply)
-  legal_by k j before other is legal legal_other stands stands_other agree at = from_caller (caller_of setup (view (after setup before)) by number moment) refl
+  legal_by =
+      legal_if setup n by seq number moment which reply (λ k j a caller info declared pid guid same. record {
+        worker = own_worker_same setup n k j info handle (at k j info declared same);
+        answers = λ t u stands stands_other fine fine_other alive alive_other.
+            ap (λ (d : Decision). d.reply) (decided_same setup n k j t u stands stands_other fine fine_other caller info pid handle (at k j info declared same) which (looks caller) (goes caller));
+      })
     where
-      from_caller : (o : Option Caller) → caller_of setup (view (after setup before)) by number moment ≡ o → IsLegalCall setup (after setup other) by number moment which reply
-      from_caller None from = absurd (no_answer (ap (λ o. option_map (λ (done : Outcome). done.reply) (option_map (λ caller. outcome setup (view (after setup before)) caller which) o)) (sym from) ∙ at.answered))
-        where
-          no_answer : ◌≡◌ {A = Option Reply} None (Some reply) → ⊥
-          no_answer h = cc
-      from_caller (Some caller) from =
-          let of = is_caller_of setup (after setup before) by number moment caller from in
-          let fine = legal_is_fine setup before is legal in
-          let fine_other = legal_is_fine setup other is legal_other in
-          let met_is : met setup n k e ≡ met_by_handle setup n k of.info handle = ap (λ o. option_map_or (λ caller. met_by_call setup n k caller number which) o nothing_met) of.declared ∙ meets k of.info in
-          let same : (p : Place) → among p (all_met (met_by_handle setup n k of.info handle)) ≡ true → value_at n k p ≡ value_at n j p =
-          λ p m. met_value setup n k j e stands.well_formed.chains agree p (ap (λ x. among p (all_met x)) met_is ∙ m) in
-          let from_other = sym (caller_same setup (records_of setup n k) (records_of setup n j) (after setup before) (after setup other) stands.agree stands_other.agree by number moment of.info of.declared
-          (own_worker_same setup n k j (after setup before) (after setup other) stands stands_other fine fine_other caller of.info of.pid handle same which (looks caller) (goes caller))) ∙ from in
-          let decided = decided_same setup n k j (after setup before) (after setup other) stands stands_other fine fine_other caller of.info of.pid handle same which (looks caller) (goes caller) in
-          record {
-            numbered = at.numbered;
-            timed = at.timed;
-            in_sets = at.in_sets;
-            answered =
-                ap (λ o. option_map (λ (done : Outcome). done.reply) (option_map (λ caller. outcome setup (view (after setup other)) caller which) o)) from_other
-                ∙ ap Some (behind_copy_reply setup (after setup other) (perform_all (expired_by setup (view (after setup other)) caller which) (after setup other)) caller which refl
-                ∙ ap (λ (d : Rattle.serial_table.specs.declared.decision.Decision.Decision). d.reply) (sym decided)
-                ∙ sym (behind_copy_reply setup (after setup before) (perform_all (expired_by setup (view (after setup before)) caller which) (after setup before)) caller which refl))
-                ∙ ap (λ o. option_map (λ (done : Outcome). done.reply) (option_map (λ caller. outcome setup (view (after setup before)) caller which) o)) (sym from) ∙ at.answered;
-          }
+      at : (k j : Chains) (info : WorkerInfo) → declared_at setup.workers by ≡ Some info → ((p : Place) → among p (all_met (met setup n k (call_entry by seq number moment which reply))) ≡ true → value_at n k p ≡ value_at n j p)
+          → (p : Place) → among p (all_met (met_by_handle setup n k info handle)) ≡ true → value_at n k p ≡ value_at n j p
+      at k j info declared same p m = same p (ap (λ x. among p (all_met x)) (ap (λ o. option_map_or (λ caller. met_by_call setup n k caller number which) o nothing_met) declared ∙ meets k info) ∙ m)
 
 module _ (setup : Setup) (n by seq number : ℕ) (moment : Moment) (handle : ℕ) (reply : Reply) where
   pub close_legal : IsLegalByFootprint setup n (call_entry by seq number moment (call.Close handle) reply)

@@ -11,6 +11,7 @@ pub mod Fading
 pub mod Stepping
 pub mod Touching
 pub mod Meets
+pub mod KeysThere
 pub mod Deciding
 pub mod Chains
 pub mod OpenRecords
@@ -27,4 +28,7 @@ pub mod OpenEvents
 pub mod Showing
 pub mod Footprints
 pub mod SameFiles
+pub mod Answering
 pub mod HandleAnswers
+pub mod PlainAnswers
+pub mod AckAnswers

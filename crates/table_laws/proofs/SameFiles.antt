@@ -19,7 +19,7 @@ use Rattle.serial_table.specs.Change.{perform_all}
 use Rattle.serial_table.specs.Expire.{carried_by, names_at, names_beside, look, due, is_due, expires, then_settles, expired_by}
 use Rattle.serial_table.specs.Local.{is_in, all_in, perform_all_in_file}
 use Rattle.serial_table.specs.Sound.{IsSound}
-use Rattle.serial_table.proofs.BreaksLeave.{from_breaks}
+use Rattle.serial_table.proofs.BreaksLeave.{ComesFrom, from_breaks}
 use Rattle.serial_table.proofs.Expiring.{settles_all}
 use Rattle.serial_table.proofs.Files.{file_view-perform_all}
 use Rattle.serial_table.proofs.Filters.{filter-filter}
@@ -61,6 +61,23 @@ named_leases t sound file name i =
     sym (filter_every (λ (l : LeaseRow). l.file == file) ((view t).leases_of name) (λ l j.
     eq-eqb l.file file (lease_of_file t sound o.0 name l at.0 o.2 j ∙ eqb-true o.0.file file at.1)))
 
+-- ---- behind leases of the file that expire
+
+module _ (setup : Setup) (caller : Caller) (file : ℕ) (call : Call) (t : Table) (own : (l : LeaseRow) → IsIn l (due (view t) caller.moment (look setup (view t) caller call)) → l.file ≡ file) where
+  breaks : list_all (is_of_break file) (expired_by setup (view t) caller call) ≡ true
+  unfolding expired_by
+  breaks =
+      let rows = due (view t) caller.moment (look setup (view t) caller call) in
+      settles_all (is_of_break file) refl (map expires rows) (list_all-map (is_of_break file) expires rows ∙ all_each (λ (l : LeaseRow). l.file == file) rows (λ l i. eq-eqb l.file file (own l i)))
+
+  pub view_behind : file_view file (view (perform_all (expired_by setup (view t) caller call) t)) ≡ perform_all_in_file (expired_by setup (view t) caller call) (file_view file (view t))
+  view_behind = file_view-perform_all file (expired_by setup (view t) caller call) t (all_inside (lives (view t)) file (expired_by setup (view t) caller call) breaks)
+
+  pub from_behind : ComesFrom t (perform_all (expired_by setup (view t) caller call) t)
+  from_behind = from_breaks file (expired_by setup (view t) caller call) t breaks
+
+-- ---- a call by a handle
+
 module _ (setup : Setup) (caller : Caller) (handle file : ℕ) (call : Call) (looks : (v : View) → look setup v caller call ≡ names_beside v (v.opens_of_handle caller.sid handle)) where
   module _ (t : Table) (sound : IsSound t) (of : AreOfFile caller.sid handle file t) where
     row_file : (row : OpenRow) → IsIn row ((view t).opens_of_handle caller.sid handle) → row.file ≡ file
@@ -80,20 +97,14 @@ module _ (setup : Setup) (caller : Caller) (handle file : ℕ) (call : Call) (lo
         let own = in_filter (is_of_file file) t.opens o.0 o.1 in
         lease_of_file t sound o.0 name.0 l own.0 o.2 name.2 ∙ eqb-true o.0.file file own.1
 
-    breaks : list_all (is_of_break file) (expired_by setup (view t) caller call) ≡ true
-    unfolding expired_by
-    breaks =
-        let rows = due (view t) caller.moment (look setup (view t) caller call) in
-        settles_all (is_of_break file) refl (map expires rows) (list_all-map (is_of_break file) expires rows ∙ all_each (λ (l : LeaseRow). l.file == file) rows (λ l i. eq-eqb l.file file (due_of_file l i)))
-
     abbrev behind : Table
     behind = perform_all (expired_by setup (view t) caller call) t
 
     pub behind_view : file_view file (view behind) ≡ perform_all_in_file (expired_by setup (view t) caller call) (file_view file (view t))
-    behind_view = file_view-perform_all file (expired_by setup (view t) caller call) t (all_inside (lives (view t)) file (expired_by setup (view t) caller call) breaks)
+    behind_view = view_behind setup caller file call t due_of_file
 
     pub behind_of_file : AreOfFile caller.sid handle file behind
-    behind_of_file o i e = of o ((from_breaks file (expired_by setup (view t) caller call) t breaks).opens o i) e
+    behind_of_file o i e = of o ((from_behind setup caller file call t due_of_file).opens o i) e
 
   -- ---- two tables
 

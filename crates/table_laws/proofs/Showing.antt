@@ -7,7 +7,7 @@ use Rattle.sid_core.specs.declared.ids.LeaseName.{LeaseName}
 use Rattle.sid_core.specs.declared.ids.OpenId.{OpenId}
 use Rattle.sid_core.specs.declared.ids.Sid.{Sid}
 use Rattle.sid_core.specs.declared.ids.Spot.{Spot}
-use Rattle.sid_core.specs.declared.ids.Spot.TheVariants.{OpenOf, RangesOf}
+use Rattle.sid_core.specs.declared.ids.Spot.TheVariants.{OpenOf, RangesOf, LockOf}
 use Rattle.sid_core.specs.Ids.{same_id}
 use Rattle.sid_core.specs.Values.{has}
 use Rattle.serial_table.specs.View.{carries}
@@ -15,15 +15,19 @@ use Rattle.serial_table.specs.File.{FileOpen, file_open}
 use Rattle.serial_table.proofs.SameIds.{same_name-eq}
 use Rattle.serial_table.proofs.Members.{IsIn, all_by, all_of, in_filter, one_of}
 use Rattle.record_codec.specs.declared.watch.WatchRec.{WatchRec}
+use Rattle.record_codec.specs.declared.glock_rec.GLockRec.{GLockRec}
+use Rattle.record_codec.specs.declared.glock_rec.Hold.{Hold}
 use Rattle.record_codec.specs.declared.share_rec.ShareRec.{ShareRec}
 use Rattle.record_codec.specs.declared.share_rec.ShareEntry.{ShareEntry}
 use Rattle.record_codec.specs.declared.lease_rec.LeaseRec.{LeaseRec}
 use Rattle.record_codec.specs.declared.lease_rec.LeaseRef.{LeaseRef}
 use Rattle.record_codec.specs.declared.range_rec.RangeItem.{RangeItem}
 use Rattle.record_codec.specs.declared.range_rec.RangeRec.{RangeRec}
-use Rattle.record_codec.specs.Counts.{lives, is_current, has_token_at, watch_counts, is_connected, is_unanswered, settled_state, ref_counts, settled_refs, unless_empty, settled_lease, keeps, is_kept, entry_counts, pending_counts, entry_of_id_counts, range_counts}
+use Rattle.record_codec.specs.Counts.{lives, is_current, hold_counts, has_token_at, watch_counts, is_connected, is_unanswered, settled_state, ref_counts, settled_refs, unless_empty, settled_lease, keeps, is_kept, entry_counts, pending_counts, entry_of_id_counts, range_counts}
 use Rattle.stored_table.specs.Decoded.{AllRecords, deciding}
 use Rattle.stored_table.specs.Shown.{open_row, range_row, watch_row, part_of, pending_shown, is_named, if_of_file, lease_shown, shown}
+use Rattle.stored_table.specs.Exact.{unless_both_empty}
+use Rattle.stored_table.specs.Stands.{clean_lock}
 use Rattle.table_laws.proofs.Lists.{all_mapped, any_alike}
 
 filter_alike : {X : Type 0} (p q : X → Bool) (xs : List X) → AllByRecursion (λ x. p x ≡ q x) xs → filter p xs ≡ filter q xs
@@ -97,7 +101,7 @@ module _ (s z : AllRecords) where
     lease_same : settled_lease (deciding s) x ≡ settled_lease (deciding z) x
     lease_same = some_refs (settled_refs (deciding s) x) ∙ ap (unless_empty (deciding z) x) refs_same
 
-  settled_same : (o : Option LeaseRec) → IfSome o SameRefs → option_and_then (settled_lease (deciding s)) o ≡ option_and_then (settled_lease (deciding z)) o
+  pub settled_same : (o : Option LeaseRec) → IfSome o SameRefs → option_and_then (settled_lease (deciding s)) o ≡ option_and_then (settled_lease (deciding z)) o
   settled_same None h = refl
   settled_same (Some x) h = lease_same x h
 
@@ -113,6 +117,25 @@ module _ (s z : AllRecords) where
 
   entry_same : (file : ℕ) (e : ShareEntry) → SameEntry e → entry_counts (deciding s) file e ≡ entry_counts (deciding z) file e
   entry_same file e h = λ i. lives_same e.owner h.owner i || (not (e.durable == 0) && kept_same file e.id e.lease h.lease i)
+
+  -- ---- a lock
+
+  pub record SameLockRecord (key : ℕ) : Type 0 where
+    pub lock : s.locks key ≡ z.locks key
+    pub holders : IfSome (s.locks key) (λ (r : GLockRec). AllByRecursion (λ hold. SameOwner hold.sid) r.holds)
+    pub watchers : IfSome (s.locks key) (λ (r : GLockRec). AllByRecursion SameWatch r.watchers)
+
+  -- the parts that count
+  pub clean_lock_same : (key : ℕ) → SameLockRecord key → option_and_then (clean_lock (deciding s) key) (s.locks key) ≡ option_and_then (clean_lock (deciding z) key) (z.locks key)
+  clean_lock_same key h = by (s.locks key) h.holders h.watchers ∙ ap (option_and_then (clean_lock (deciding z) key)) h.lock
+    where
+      by : (o : Option GLockRec) → IfSome o (λ (r : GLockRec). AllByRecursion (λ hold. SameOwner hold.sid) r.holds) → IfSome o (λ (r : GLockRec). AllByRecursion SameWatch r.watchers)
+          → option_and_then (clean_lock (deciding s) key) o ≡ option_and_then (clean_lock (deciding z) key) o
+      by None a b = refl
+      by (Some r) a b =
+          let holds = filter_alike (hold_counts (deciding s)) (hold_counts (deciding z)) r.holds (all_mapped (λ (hold : Hold). SameOwner hold.sid) (λ hold. hold_counts (deciding s) hold ≡ hold_counts (deciding z) hold) (λ hold. lives_same hold.sid) r.holds a) in
+          let watches = filter_alike (watch_counts (deciding s) (LockOf key)) (watch_counts (deciding z) (LockOf key)) r.watchers (all_mapped SameWatch (λ w. watch_counts (deciding s) (LockOf key) w ≡ watch_counts (deciding z) (LockOf key) w) (watch_same (LockOf key)) r.watchers b) in
+          λ i. unless_both_empty (holds i) (watches i) (let x : GLockRec = record { holds = holds i; watchers = watches i } in x)
 
   -- ---- a file
 

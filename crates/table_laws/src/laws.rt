@@ -10,7 +10,7 @@ ghost use Rattle.sid_core.specs.declared.call.Mode.{Mode};
 ghost use Rattle.sid_core.specs.declared.call.Span.{Span};
 ghost use Rattle.sid_core.specs.declared.call.Tables.{Tables};
 ghost use Rattle.sid_core.specs.declared.entry.Entry.{Entry};
-ghost use Rattle.sid_core.specs.declared.entry.Event.TheVariants.{Tidied};
+ghost use Rattle.sid_core.specs.declared.entry.Event.TheVariants.{Died, Tidied};
 ghost use Rattle.sid_core.specs.declared.ids.Moment.{Moment};
 ghost use Rattle.sid_core.specs.declared.reply.Reply.{Reply};
 ghost use Rattle.sid_core.specs.declared.setup.Setup.{Setup};
@@ -99,4 +99,31 @@ pub fn calls_by_handle_go_by_the_footprint()
         → IsLegalByFootprint setup n (call_entry by seq number moment (call.Read handle span) reply) }
     ensures write { (setup : Setup) (n by seq number : ℕ) (moment : Moment) (handle : ℕ) (span : Span) (reply : Reply)
         → IsLegalByFootprint setup n (call_entry by seq number moment (call.Write handle span) reply) }
+{}
+
+/// What is legal goes by the footprint alone: the same of `ack`.
+pub fn acknowledgements_go_by_the_footprint()
+    ensures { (setup : Setup) (n by seq number : ℕ) (moment : Moment) (key : ℕ) (state : LeaseState) (reply : Reply)
+        → IsLegalByFootprint setup n (call_entry by seq number moment (call.Ack key state) reply) }
+{}
+
+/// What is legal goes by the footprint alone: the same of `glock`, `gunlock`, `recv`, `disconnect` and `tidy`.
+pub fn calls_of_no_file_go_by_the_footprint()
+    ensures glock { (setup : Setup) (n by seq number : ℕ) (moment : Moment) (key : ℕ) (mode : Mode) (wait : Bool) (reply : Reply)
+        → IsLegalByFootprint setup n (call_entry by seq number moment (call.GLock key mode wait) reply) }
+    ensures gunlock { (setup : Setup) (n by seq number : ℕ) (moment : Moment) (key : ℕ) (reply : Reply)
+        → IsLegalByFootprint setup n (call_entry by seq number moment (call.GUnlock key) reply) }
+    ensures recv { (setup : Setup) (n by seq number : ℕ) (moment : Moment) (reply : Reply)
+        → IsLegalByFootprint setup n (call_entry by seq number moment call.Recv reply) }
+    ensures disconnect { (setup : Setup) (n by seq number : ℕ) (moment : Moment) (reply : Reply)
+        → IsLegalByFootprint setup n (call_entry by seq number moment call.Disconnect reply) }
+    ensures tidy { (setup : Setup) (n by seq number : ℕ) (moment : Moment) (reply : Reply)
+        → IsLegalByFootprint setup n (call_entry by seq number moment call.Tidy reply) }
+{}
+
+/// What is legal goes by the footprint alone: the same of a death, and of a tidied chain, which always is legal.
+pub fn deaths_go_by_the_footprint()
+    ensures died { (setup : Setup) (n by seq worker : ℕ) (moment : Moment)
+        → IsLegalByFootprint setup n (record { by = by; seq = seq; what = Died worker moment }) }
+    ensures tidied { (setup : Setup) (n by seq chain : ℕ) → IsLegalByFootprint setup n (record { by = by; seq = seq; what = Tidied chain }) }
 {}
