@@ -64,7 +64,7 @@ lease_back name l None refs named is = λ i. record { name = sym named i; file =
 lease_back name l (Some b) refs named is = λ i. record { name = sym named i; file = l.file; held = l.held; breaking = sym is i }
 
 -- an open under a lease of the name
-open_under : (t : Table) (sound : IsSound t) (name : LeaseName) (l : LeaseRow) → IsIn l ((view t).leases_of name) → (o : OpenRow) × IsUnder t sound name l o
+pub open_under : (t : Table) (sound : IsSound t) (name : LeaseName) (l : LeaseRow) → IsIn l ((view t).leases_of name) → (o : OpenRow) × IsUnder t sound name l o
 open_under t sound name l i =
     let at = in_filter (has_name name) t.leases l i in
     let o = one_of (is_open_under l) t.opens (each (has_open t.opens) t.leases sound.leases_have_opens l at.0) in
@@ -218,6 +218,6 @@ module _ (setup : Setup) (n by seq number : ℕ) (moment : Moment) (key : ℕ) (
       legal_if setup n by seq number moment (call.Ack key state) reply (λ k j a caller info declared pid guid same.
       let at = at_met setup n k j (call_entry by seq number moment (call.Ack key state) reply) (met_by_name n k info (record { guid = info.guid; key = key })) (by_declared setup n k by number (call.Ack key state) info declared) same in
       record {
-        worker = own_register_same setup n k j [] [] (files_with n k (record { guid = info.guid; key = key })) (name_key (record { guid = info.guid; key = key }) ∷ []) (pid_key info.pid ∷ []) at info.pid (inl refl);
-        answers = λ t u stands stands_other fine fine_other alive alive_other. ap (λ (d : Decision). d.reply) (ack_same k j caller info guid at t u stands stands_other fine fine_other);
+        worker = λ t stands alive. own_register_same setup n k j [] [] (files_with n k (record { guid = info.guid; key = key })) (name_key (record { guid = info.guid; key = key }) ∷ []) (pid_key info.pid ∷ []) at info.pid (inl refl);
+        answers = λ t u stands stands_other fine fine_other alive alive_other settled settled_other. ap (λ (d : Decision). d.reply) (ack_same k j caller info guid at t u stands stands_other fine fine_other);
       })

@@ -15,10 +15,12 @@ use Rattle.serial_table.specs.Change.{perform_all}
 use Rattle.serial_table.specs.Decision.{Outcome}
 use Rattle.serial_table.specs.Decide.{decide, outcome}
 use Rattle.serial_table.specs.Expire.{expired_by}
-use Rattle.serial_table.specs.History.{after, IsLegalCall}
+use Rattle.serial_table.specs.History.{start, after, IsLegalCall}
+use Rattle.serial_table.specs.Settle.{settle}
 use Rattle.serial_table.specs.Step.{declared_at, caller_if_alive, caller_of}
 use Rattle.serial_table.proofs.Callers.{IsCallerOf, is_caller_of}
-use Rattle.serial_table.proofs.Expiring.{behind_copy_reply}
+use Rattle.serial_table.proofs.Concluding.{start-settled}
+use Rattle.serial_table.proofs.Expiring.{after_all-settled, behind_copy_reply}
 use Rattle.serial_table.proofs.Members.{found_in}
 use Rattle.record_codec.specs.declared.register_rec.RegisterRec.{RegisterRec}
 use Rattle.record_codec.specs.Counts.{Records}
@@ -34,10 +36,10 @@ use Rattle.table_laws.proofs.Footprints.{met_value}
 
 -- ---- who calls, by the register record
 
-abbrev told : RegisterRec → Bool × ℕ
+abbrev pub told : RegisterRec → Bool × ℕ
 told r = (r.alive, r.session)
 
-abbrev told_row : WorkerRow → Bool × ℕ
+abbrev pub told_row : WorkerRow → Bool × ℕ
 told_row row = (row.alive, row.session)
 
 told_clean : (r : Records) (o : Option RegisterRec) → option_map told (option_map (clean_register r) o) ≡ option_map told o
@@ -49,7 +51,7 @@ told_exact v None = refl
 told_exact v (Some row) = refl
 
 -- what the record tells of the worker
-told_worker : (setup : Setup) (s : AllRecords) (v : View) → AgreeWith setup s v → (pid : ℕ) → option_map told_row (v.worker_of pid) ≡ option_map told (s.register pid)
+pub told_worker : (setup : Setup) (s : AllRecords) (v : View) → AgreeWith setup s v → (pid : ℕ) → option_map told_row (v.worker_of pid) ≡ option_map told (s.register pid)
 told_worker setup s v agree pid = sym (told_exact v (v.worker_of pid)) ∙ ap (option_map told) (sym (agree.register pid)) ∙ told_clean (deciding s) (s.register pid)
 
 abbrev made : WorkerInfo → ℕ → Moment → Bool × ℕ → Option Caller
@@ -77,8 +79,8 @@ caller_same setup s z t u agree agree_other by number moment info declared same 
 
 -- what a call owes of two databases where each met record is the same
 pub record IsAnsweredAlike (setup : Setup) (n : ℕ) (k j : Chains) (which : Call) (caller : Caller) (info : WorkerInfo) : Type 0 where
-  pub worker : (records_of setup n k).register info.pid ≡ (records_of setup n j).register info.pid
-  pub answers : (t u : Table) → StandsFor setup n k (view t) → StandsFor setup n j (view u) → IsFine setup t → IsFine setup u → lives (view t) caller.sid ≡ true → lives (view u) caller.sid ≡ true
+  pub worker : (t : Table) → StandsFor setup n k (view t) → lives (view t) caller.sid ≡ true → (records_of setup n k).register info.pid ≡ (records_of setup n j).register info.pid
+  pub answers : (t u : Table) → StandsFor setup n k (view t) → StandsFor setup n j (view u) → IsFine setup t → IsFine setup u → lives (view t) caller.sid ≡ true → lives (view u) caller.sid ≡ true → settle t ≡ t → settle u ≡ u
       → (decide setup (view (perform_all (expired_by setup (view t) caller which) t)) caller which).reply ≡ (decide setup (view (perform_all (expired_by setup (view u) caller which) u)) caller which).reply
 
 module _ (setup : Setup) (n by seq number : ℕ) (moment : Moment) (which : Call) (reply : Reply)
@@ -97,8 +99,9 @@ module _ (setup : Setup) (n by seq number : ℕ) (moment : Moment) (which : Call
           let u = after setup other in
           let of = is_caller_of setup t by number moment caller from in
           let alike = owes k j stands.well_formed.chains caller of.info of.declared of.pid of.guid_is (met_value setup n k j (call_entry by seq number moment which reply) stands.well_formed.chains agree) in
-          let from_other = sym (caller_same setup (records_of setup n k) (records_of setup n j) t u stands.agree stands_other.agree by number moment of.info of.declared alike.worker) ∙ from in
-          let answers = alike.answers t u stands stands_other (legal_is_fine setup before is legal) (legal_is_fine setup other is legal_other) of.alive (is_caller_of setup u by number moment caller from_other).alive in
+          let from_other = sym (caller_same setup (records_of setup n k) (records_of setup n j) t u stands.agree stands_other.agree by number moment of.info of.declared (alike.worker t stands of.alive)) ∙ from in
+          let answers = alike.answers t u stands stands_other (legal_is_fine setup before is legal) (legal_is_fine setup other is legal_other) of.alive (is_caller_of setup u by number moment caller from_other).alive
+          (after_all-settled setup (start setup) before (start-settled setup)) (after_all-settled setup (start setup) other (start-settled setup)) in
           record {
             numbered = at.numbered;
             timed = at.timed;

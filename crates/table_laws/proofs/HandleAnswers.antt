@@ -199,8 +199,8 @@ module _ (setup : Setup) (n by seq number : ℕ) (moment : Moment) (which : Call
   legal_by : IsLegalByFootprint setup n (call_entry by seq number moment which reply)
   legal_by =
       legal_if setup n by seq number moment which reply (λ k j a caller info declared pid guid same. record {
-        worker = own_worker_same setup n k j info handle (at k j info declared same);
-        answers = λ t u stands stands_other fine fine_other alive alive_other.
+        worker = λ t stands alive. own_worker_same setup n k j info handle (at k j info declared same);
+        answers = λ t u stands stands_other fine fine_other alive alive_other settled settled_other.
             ap (λ (d : Decision). d.reply) (decided_same setup n k j t u stands stands_other fine fine_other caller info pid handle (at k j info declared same) which (looks caller) (goes caller));
       })
     where

@@ -32,3 +32,4 @@ pub mod Answering
 pub mod HandleAnswers
 pub mod PlainAnswers
 pub mod AckAnswers
+pub mod OpenAnswers

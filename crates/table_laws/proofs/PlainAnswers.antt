@@ -7,6 +7,7 @@ use Rattle.std.proofs.lemmas.Bool.{and_parts, eqb-true}
 use Rattle.sid_core.specs.declared.call.Call.{Call}
 use Rattle.sid_core.specs.declared.call.Call.TheVariants as call
 use Rattle.sid_core.specs.declared.call.Mode.{Mode}
+use Rattle.sid_core.specs.declared.call.Tables.{Tables}
 use Rattle.sid_core.specs.declared.call.Mode.TheVariants.{Shared, Exclusive}
 use Rattle.sid_core.specs.declared.entry.Entry.{Entry}
 use Rattle.sid_core.specs.declared.entry.Event.TheVariants.{Died, Tidied}
@@ -44,12 +45,14 @@ use Rattle.record_codec.specs.declared.glock_rec.Hold.{Hold}
 use Rattle.record_codec.specs.declared.mail_rec.MailRec.{MailRec}
 use Rattle.record_codec.specs.declared.mail_rec.Token.{Token}
 use Rattle.record_codec.specs.declared.watch.WatchRec.{WatchRec}
+use Rattle.chain_map.specs.declared.db.Db.TheVariants as db
+use Rattle.record_codec.specs.declared.register_rec.RegisterRec.{RegisterRec}
 use Rattle.record_codec.specs.RegisterRec.{register_rec}
 use Rattle.stored_table.specs.Keys.{lock_key, pid_key}
 use Rattle.stored_table.specs.Places.{Chains, Place, HasChains, among, value_at}
 use Rattle.stored_table.specs.Decoded.{AllRecords, deciding, decoded, records_of}
 use Rattle.stored_table.specs.Exact.{unless_both_empty, hold_of, watch_of, token_of, exact_lock, mail_record, mail_of_session, mail_if_alive, exact_mail}
-use Rattle.stored_table.specs.Met.{KeyList, Met, met, met_by_call, met_by_files, met_by_lock, met_by_worker, all_met, nothing_met}
+use Rattle.stored_table.specs.Met.{KeyList, Met, met, met_by_call, met_by_files, met_by_lock, met_by_worker, met_everywhere, all_keys, all_met, nothing_met}
 use Rattle.stored_table.specs.Shown.{part_of, watch_row}
 use Rattle.stored_table.specs.Stands.{AgreeWith, StandsFor}
 use Rattle.table_laws.specs.Standing.{call_entry}
@@ -59,7 +62,8 @@ use Rattle.table_laws.proofs.Chains.{IsFine}
 use Rattle.table_laws.proofs.Meets.{part_first, part_second, register_met}
 use Rattle.table_laws.proofs.Showing.{SameLockRecord, clean_lock_same}
 use Rattle.table_laws.proofs.Footprints.{met_value, own_register_same, own_mail_same, lock_same}
-use Rattle.table_laws.proofs.Answering.{caller_same, IsAnsweredAlike, legal_if}
+use Rattle.table_laws.proofs.KeysThere.{recorded_key}
+use Rattle.table_laws.proofs.Answering.{told, told_row, told_worker, caller_same, IsAnsweredAlike, legal_if}
 
 -- what is met is told by the caller
 pub at_met : (setup : Setup) (n : ℕ) (k j : Chains) (e : Entry) (m : Met) → met setup n k e ≡ m → ((p : Place) → among p (all_met (met setup n k e)) ≡ true → value_at n k p ≡ value_at n j p)
@@ -80,9 +84,9 @@ module _ (setup : Setup) (n by seq number : ℕ) (moment : Moment) (reply : Repl
   pub disconnect_legal : IsLegalByFootprint setup n (call_entry by seq number moment call.Disconnect reply)
   disconnect_legal =
       legal_if setup n by seq number moment call.Disconnect reply (λ k j a caller info declared pid guid same. record {
-        worker = own_register_same setup n k j [] [] [] [] (pid_key info.pid ∷ [])
+        worker = λ t stands alive. own_register_same setup n k j [] [] [] [] (pid_key info.pid ∷ [])
             (at_met setup n k j (call_entry by seq number moment call.Disconnect reply) (met_by_worker n k info) (by_declared setup n k by number call.Disconnect info declared) same) info.pid (inl refl);
-        answers = λ t u stands stands_other fine fine_other alive alive_other. disconnect_reply _ caller ∙ sym (disconnect_reply _ caller);
+        answers = λ t u stands stands_other fine fine_other alive alive_other settled settled_other. disconnect_reply _ caller ∙ sym (disconnect_reply _ caller);
       })
 
   abbrev tidy_met : WorkerInfo → Met
@@ -91,9 +95,32 @@ module _ (setup : Setup) (n by seq number : ℕ) (moment : Moment) (reply : Repl
   pub tidy_legal : IsLegalByFootprint setup n (call_entry by seq number moment call.Tidy reply)
   tidy_legal =
       legal_if setup n by seq number moment call.Tidy reply (λ k j a caller info declared pid guid same. record {
-        worker = ap (decoded register_rec) (at_met setup n k j (call_entry by seq number moment call.Tidy reply) (tidy_met info) (by_declared setup n k by number call.Tidy info declared) same
+        worker = λ t stands alive. ap (decoded register_rec) (at_met setup n k j (call_entry by seq number moment call.Tidy reply) (tidy_met info) (by_declared setup n k by number call.Tidy info declared) same
             (register_place info.pid) (register_met (tidy_met info) (pid_key info.pid) (inl refl)));
-        answers = λ t u stands stands_other fine fine_other alive alive_other. refl;
+        answers = λ t u stands stands_other fine fine_other alive alive_other settled settled_other. refl;
+      })
+
+  -- ---- `status`, which meets all register records
+
+  -- that of a living worker is there
+  register_there : (k : Chains) (t : Table) (pid session : ℕ) → StandsFor setup n k (view t) → lives (view t) (record { pid = pid; session = session }) ≡ true → IsIn (pid_key pid) (all_keys n k db.Register)
+  register_there k t pid session stands alive = there ((records_of setup n k).register pid) refl
+    where
+      dead : (o : Option WorkerRow) → option_map told_row o ≡ None → option_map_or (λ (row : WorkerRow). row.alive && (row.session == session)) o false ≡ true → ⊥
+      dead None e h = absurd cc
+      dead (Some row) e h = absurd cc
+
+      there : (o : Option RegisterRec) → (records_of setup n k).register pid ≡ o → IsIn (pid_key pid) (all_keys n k db.Register)
+      there None e = absurd (dead ((view t).worker_of pid) (told_worker setup (records_of setup n k) (view t) stands.agree pid ∙ ap (option_map told) e) alive)
+      there (Some r) e = recorded_key n k db.Register (pid_key pid) register_rec r stands.well_formed.chains.some e
+
+  pub status_legal : (tables : Tables) → IsLegalByFootprint setup n (call_entry by seq number moment (call.Status tables) reply)
+  status_legal tables =
+      legal_if setup n by seq number moment (call.Status tables) reply (λ k j a caller info declared pid guid same. record {
+        worker = λ t stands alive.
+            ap (decoded register_rec) (at_met setup n k j (call_entry by seq number moment (call.Status tables) reply) (met_everywhere n k []) (by_declared setup n k by number (call.Status tables) info declared) same
+            (register_place info.pid) (register_met (met_everywhere n k []) (pid_key info.pid) (subst (λ p. IsIn (pid_key p) (all_keys n k db.Register)) pid (register_there k t caller.sid.pid caller.sid.session stands alive))));
+        answers = λ t u stands stands_other fine fine_other alive alive_other settled settled_other. refl;
       })
 
 -- ---- `recv`: by the letters of the caller's mailbox
@@ -140,8 +167,8 @@ module _ (setup : Setup) (n by seq number : ℕ) (moment : Moment) (reply : Repl
       legal_if setup n by seq number moment call.Recv reply (λ k j a caller info declared pid guid same.
       let at = at_met setup n k j (call_entry by seq number moment call.Recv reply) (met_by_worker n k info) (by_declared setup n k by number call.Recv info declared) same in
       record {
-        worker = own_register_same setup n k j [] [] [] [] (pid_key info.pid ∷ []) at info.pid (inl refl);
-        answers = λ t u stands stands_other fine fine_other alive alive_other.
+        worker = λ t stands alive. own_register_same setup n k j [] [] [] [] (pid_key info.pid ∷ []) at info.pid (inl refl);
+        answers = λ t u stands stands_other fine fine_other alive alive_other settled settled_other.
             recv_answers k j caller (subst (λ p. (records_of setup n k).mail p ≡ (records_of setup n j).mail p) (sym pid) (own_mail_same setup n k j [] [] [] [] (pid_key info.pid ∷ []) at info.pid (inl refl))) t u stands stands_other alive alive_other;
       })
 
@@ -217,8 +244,8 @@ module _ (setup : Setup) (n by seq number : ℕ) (moment : Moment) (key : ℕ) (
       legal_if setup n by seq number moment (call.GLock key mode wait) reply (λ k j a caller info declared pid guid same.
       let at = at_met setup n k j (call_entry by seq number moment (call.GLock key mode wait) reply) (met_by_lock n k info key) (by_declared setup n k by number (call.GLock key mode wait) info declared) same in
       record {
-        worker = own_register_same setup n k j [] (lock_key key ∷ []) [] [] (pid_key info.pid ∷ []) at info.pid (inl refl);
-        answers = λ t u stands stands_other fine fine_other alive alive_other.
+        worker = λ t stands alive. own_register_same setup n k j [] (lock_key key ∷ []) [] [] (pid_key info.pid ∷ []) at info.pid (inl refl);
+        answers = λ t u stands stands_other fine fine_other alive alive_other settled settled_other.
             let lock = lock_same setup n k j [] (lock_key key ∷ []) [] [] (pid_key info.pid ∷ []) at key (inl refl) in
             glock_same (view t) (view u) caller key (lock_holds_same setup n k j key lock t u stands stands_other) (lock_watches_same setup n k j key lock t u stands stands_other) mode wait;
       })
@@ -229,8 +256,8 @@ module _ (setup : Setup) (n by seq number : ℕ) (moment : Moment) (key : ℕ) (
       legal_if setup n by seq number moment (call.GUnlock key) reply (λ k j a caller info declared pid guid same.
       let at = at_met setup n k j (call_entry by seq number moment (call.GUnlock key) reply) (met_by_lock n k info key) (by_declared setup n k by number (call.GUnlock key) info declared) same in
       record {
-        worker = own_register_same setup n k j [] (lock_key key ∷ []) [] [] (pid_key info.pid ∷ []) at info.pid (inl refl);
-        answers = λ t u stands stands_other fine fine_other alive alive_other.
+        worker = λ t stands alive. own_register_same setup n k j [] (lock_key key ∷ []) [] [] (pid_key info.pid ∷ []) at info.pid (inl refl);
+        answers = λ t u stands stands_other fine fine_other alive alive_other settled settled_other.
             let lock = lock_same setup n k j [] (lock_key key ∷ []) [] [] (pid_key info.pid ∷ []) at key (inl refl) in
             gunlock_same (view t) (view u) caller key (lock_holds_same setup n k j key lock t u stands stands_other) (lock_watches_same setup n k j key lock t u stands stands_other);
       })

@@ -34,7 +34,7 @@ rows_back : (alive : Sid → Bool) (rows : List OpenRow) → map (λ (o : FileOp
 rows_back alive [] = refl
 rows_back alive (row ∷ rows) = ap (λ rs. row ∷ rs) (rows_back alive rows)
 
-opens_told : (file : ℕ) (v : View) → map (λ (o : FileOpen). o.row) (file_view file v).opens ≡ v.opens_of file
+pub opens_told : (file : ℕ) (v : View) → map (λ (o : FileOpen). o.row) (file_view file v).opens ≡ v.opens_of file
 opens_told file v = rows_back (lives v) (v.opens_of file)
 
 -- the opens of the handle are of the file
@@ -54,12 +54,17 @@ all_inside alive file (change ∷ cs) e =
     and_from (is_in alive file change) (all_in alive file cs) (break_in alive file change p.0) (all_inside alive file cs p.1)
 
 -- the leases of names that opens of the file carry are the file's
-named_leases : (t : Table) → IsSound t → (file : ℕ) (name : LeaseName) → IsIn name (carried_by ((view t).opens_of file)) → (view t).leases_of name ≡ (file_view file (view t)).leases name
+pub named_leases : (t : Table) → IsSound t → (file : ℕ) (name : LeaseName) → IsIn name (carried_by ((view t).opens_of file)) → (view t).leases_of name ≡ (file_view file (view t)).leases name
 named_leases t sound file name i =
     let o = carried_in ((view t).opens_of file) name i in
     let at = in_filter (is_of_file file) t.opens o.0 o.1 in
     sym (filter_every (λ (l : LeaseRow). l.file == file) ((view t).leases_of name) (λ l j.
     eq-eqb l.file file (lease_of_file t sound o.0 name l at.0 o.2 j ∙ eqb-true o.0.file file at.1)))
+
+-- the leases of names, where each name has the same
+pub flat_same : (v w : View) (names : List LeaseName) → ((name : LeaseName) → IsIn name names → v.leases_of name ≡ w.leases_of name) → flat_map (λ name. v.leases_of name) names ≡ flat_map (λ name. w.leases_of name) names
+flat_same v w [] h = refl
+flat_same v w (name ∷ names) h = λ i. h name (inl refl) i ++ flat_same v w names (λ m j. h m (inr j)) i
 
 -- ---- behind leases of the file that expire
 
@@ -128,11 +133,6 @@ module _ (setup : Setup) (caller : Caller) (handle file : ℕ) (call : Call) (lo
         ∙ ap (names_beside (view u)) rows_same
         ∙ sym (looks (view u))
 
-    flat_same : (names : List LeaseName) → ((name : LeaseName) → IsIn name names → (view t).leases_of name ≡ (view u).leases_of name)
-        → flat_map (λ name. (view t).leases_of name) names ≡ flat_map (λ name. (view u).leases_of name) names
-    flat_same [] h = refl
-    flat_same (name ∷ names) h = λ i. h name (inl refl) i ++ flat_same names (λ m j. h m (inr j)) i
-
     leases_same : (name : LeaseName) → IsIn name (look setup (view t) caller call) → (view t).leases_of name ≡ (view u).leases_of name
     leases_same name i =
         let carried = name_there t sound of ((view t).opens_of_handle caller.sid handle) (row_file t sound of) name (subst (IsIn name) (looks (view t)) i) in
@@ -143,7 +143,7 @@ module _ (setup : Setup) (caller : Caller) (handle file : ℕ) (call : Call) (lo
     expired_same : expired_by setup (view t) caller call ≡ expired_by setup (view u) caller call
     unfolding expired_by
     expired_same =
-        ap (λ ls. then_settles (map expires (filter (is_due caller.moment) ls))) (flat_same (look setup (view t) caller call) leases_same)
+        ap (λ ls. then_settles (map expires (filter (is_due caller.moment) ls))) (flat_same (view t) (view u) (look setup (view t) caller call) leases_same)
         ∙ ap (λ names. then_settles (map expires (due (view u) caller.moment names))) looks_same
 
     pub view_behind_same : file_view file (view (behind t sound of)) ≡ file_view file (view (behind u sound_other of_other))

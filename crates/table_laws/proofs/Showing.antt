@@ -67,7 +67,7 @@ module _ (s z : AllRecords) where
   abbrev pub SameWatch : WatchRec → Type 0
   SameWatch w = s.mail w.sid.pid ≡ z.mail w.sid.pid
 
-  lives_same : (sid : Sid) → SameOwner sid → lives (deciding s) sid ≡ lives (deciding z) sid
+  pub lives_same : (sid : Sid) → SameOwner sid → lives (deciding s) sid ≡ lives (deciding z) sid
   lives_same sid h = ap (λ r. is_current r sid.session) h
 
   watch_same : (spot : Spot) (w : WatchRec) → SameWatch w → watch_counts (deciding s) spot w ≡ watch_counts (deciding z) spot w

@@ -107,7 +107,13 @@ pub fn acknowledgements_go_by_the_footprint()
         → IsLegalByFootprint setup n (call_entry by seq number moment (call.Ack key state) reply) }
 {}
 
-/// What is legal goes by the footprint alone: the same of `glock`, `gunlock`, `recv`, `disconnect` and `tidy`.
+/// What is legal goes by the footprint alone: the same of `open`.
+pub fn opens_go_by_the_footprint()
+    ensures { (setup : Setup) (n by seq number : ℕ) (moment : Moment) (file : ℕ) (access : Access) (share : Share) (lease : Option LeaseAsk) (durable : ℕ) (overwrite delete : Bool) (reply : Reply)
+        → IsLegalByFootprint setup n (call_entry by seq number moment (call.OpenFile file access share lease durable overwrite delete) reply) }
+{}
+
+/// What is legal goes by the footprint alone: the same of `glock`, `gunlock`, `recv`, `disconnect`, `tidy` and `status`.
 pub fn calls_of_no_file_go_by_the_footprint()
     ensures glock { (setup : Setup) (n by seq number : ℕ) (moment : Moment) (key : ℕ) (mode : Mode) (wait : Bool) (reply : Reply)
         → IsLegalByFootprint setup n (call_entry by seq number moment (call.GLock key mode wait) reply) }
@@ -119,6 +125,8 @@ pub fn calls_of_no_file_go_by_the_footprint()
         → IsLegalByFootprint setup n (call_entry by seq number moment call.Disconnect reply) }
     ensures tidy { (setup : Setup) (n by seq number : ℕ) (moment : Moment) (reply : Reply)
         → IsLegalByFootprint setup n (call_entry by seq number moment call.Tidy reply) }
+    ensures status { (setup : Setup) (n by seq number : ℕ) (moment : Moment) (tables : Tables) (reply : Reply)
+        → IsLegalByFootprint setup n (call_entry by seq number moment (call.Status tables) reply) }
 {}
 
 /// What is legal goes by the footprint alone: the same of a death, and of a tidied chain, which always is legal.
