@@ -20,6 +20,8 @@ mod chains;
 #[cfg(test)]
 mod data;
 #[cfg(test)]
+mod durable;
+#[cfg(test)]
 mod lines;
 #[cfg(test)]
 mod locks;
