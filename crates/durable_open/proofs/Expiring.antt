@@ -117,8 +117,8 @@ module _ (register : FinMap nat_cmp RegisterRec) (file : ℕ) (now : Moment) whe
   kept_same : (id : OpenId) (rec : LeaseRec) (e : ShareEntry) → has_living_ref register id rec ≡ false → same_id id e.id ≡ false → is_kept_by register (without id rec) file e ≡ is_kept_by register rec file e
   kept_same id rec e none other =
       let refs : list_any (λ ref. same_id ref.id e.id) (without id rec).refs ≡ list_any (λ ref. same_id ref.id e.id) rec.refs =
-          any_of_filter (λ ref. same_id ref.id e.id) (λ ref. not (is_of id ref)) rec.refs
-          ∙ any_alike (λ ref. not (is_of id ref) && same_id ref.id e.id) (λ ref. same_id ref.id e.id) (λ ref. other_id ref.id id e.id (same_id ref.id id) (same_id ref.id e.id) other refl refl) rec.refs in
+      any_of_filter (λ ref. same_id ref.id e.id) (λ ref. not (is_of id ref)) rec.refs
+      ∙ any_alike (λ ref. not (is_of id ref) && same_id ref.id e.id) (λ ref. same_id ref.id e.id) (λ ref. other_id ref.id id e.id (same_id ref.id id) (same_id ref.id e.id) other refl refl) rec.refs in
       λ i. not (e.durable == 0) && ((rec.file == file) && refs i && has (state_same id rec none i).0 2)
 
   lacking : (d f h : Bool) → (d && (f && false && h)) ≡ false
@@ -129,9 +129,9 @@ module _ (register : FinMap nat_cmp RegisterRec) (file : ℕ) (now : Moment) whe
   kept_none : (id : OpenId) (rec : LeaseRec) (e : ShareEntry) → same_id id e.id ≡ true → is_kept_by register (without id rec) file e ≡ false
   kept_none id rec e same =
       let refs : list_any (λ ref. same_id ref.id e.id) (without id rec).refs ≡ false =
-          any_of_filter (λ ref. same_id ref.id e.id) (λ ref. not (is_of id ref)) rec.refs
-          ∙ any_alike (λ ref. not (is_of id ref) && same_id ref.id e.id) (λ ref. false) (λ ref. ap (λ z. not (same_id ref.id z) && same_id ref.id e.id) (same_id-eq id e.id same) ∙ not_both (same_id ref.id e.id)) rec.refs
-          ∙ never rec.refs in
+      any_of_filter (λ ref. same_id ref.id e.id) (λ ref. not (is_of id ref)) rec.refs
+      ∙ any_alike (λ ref. not (is_of id ref) && same_id ref.id e.id) (λ ref. false) (λ ref. ap (λ z. not (same_id ref.id z) && same_id ref.id e.id) (same_id-eq id e.id same) ∙ not_both (same_id ref.id e.id)) rec.refs
+      ∙ never rec.refs in
       ap (λ b. not (e.durable == 0) && ((rec.file == file) && b && has (settled_state (registered register) (without id rec)).0 2)) refs ∙ lacking (not (e.durable == 0)) (rec.file == file) _
 
   -- ---- the leases after one open
@@ -237,8 +237,7 @@ module _ (register : FinMap nat_cmp RegisterRec) (file : ℕ) (now : Moment) whe
   apart L [] d none = tt
   apart L (e ∷ es) d none =
       let parts = neither (goes register file now L e && is_held_on register L e) (list_any (λ e. goes register file now L e && is_held_on register L e) es) none in
-      let ids = distinct_at L e es (goes register file now L e) refl d in
-      (
+      let ids = distinct_at L e es (goes register file now L e) refl d in (
         λ g. each_of (λ f. goes register file now L f ≡ true → same_id e.id f.id ≡ false) (λ f. same_id e.id f.id ≡ true → goes register file now L f ≡ false) (λ f h. swapped (goes register file now L f) (same_id e.id f.id) h) es (ids.0 g),
         held_parts (goes register file now L e) (is_held_on register L e) parts.0,
         apart L es ids.1 parts.1,

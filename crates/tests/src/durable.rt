@@ -148,7 +148,18 @@ fn durable_opens_are_taken_up_again(rt: HostRuntime) -> Result<(), Fail> {
     let register = workers(alloc)?;
     let mut rec = share(alloc, &OPENS)?;
     let mut lease = lease(alloc, 7, &OPENS)?;
-    assert!(rt; reconnect(&mut rec, &mut lease, &register, id_of(3), SEVEN, owner_of(1), 9, Moment(64)));
+    assert!(rt;
+        reconnect(
+            &mut rec,
+            &mut lease,
+            &register,
+            id_of(3),
+            SEVEN,
+            owner_of(1),
+            9,
+            Moment(64)
+        )
+    );
     assert_eq!(rt; rec.entries.as_slice()[2].owner.pid, 101);
     assert_eq!(rt; rec.entries.as_slice()[2].handle, 9);
     assert_eq!(rt; rec.entries.as_slice()[1].handle, 2);
@@ -156,12 +167,7 @@ fn durable_opens_are_taken_up_again(rt: HostRuntime) -> Result<(), Fail> {
     Ok(())
 }
 
-fn swept(
-    rec: &mut ShareRec,
-    leases: &mut Leases,
-    register: &Register,
-    now: Moment,
-) -> Option<u32> {
+fn swept(rec: &mut ShareRec, leases: &mut Leases, register: &Register, now: Moment) -> Option<u32> {
     if rec.entries.len() < 4_294_967_296 {
         Some(scavenge(rec, leases, register, now))
     } else {
