@@ -3,3 +3,4 @@ pub mod Sets
 pub mod Named
 pub mod Sweeping
 pub mod Reconnects
+pub mod Expiring

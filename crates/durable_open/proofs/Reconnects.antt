@@ -57,7 +57,7 @@ law true false true true false k kept h = refl
 law true false true true true k true h = sym (h refl)
 law true false true true true k false h = sym (h refl)
 
-lives_by : (pid session : ℕ) (o : Option RegisterRec) → option_map_or (λ (w : WorkerRow). w.alive && (w.session == session)) (option_map (worker_row pid) o) false ≡ is_current o session
+pub lives_by : (pid session : ℕ) (o : Option RegisterRec) → option_map_or (λ (w : WorkerRow). w.alive && (w.session == session)) (option_map (worker_row pid) o) false ≡ is_current o session
 lives_by pid session None = refl
 lives_by pid session (Some rec) = refl
 

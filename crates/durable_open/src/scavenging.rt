@@ -1,12 +1,18 @@
-ghost use Rattle.std.specs.Prelude.{◌≡◌, ◌+◌, ◌<◌, ◌^◌, ◌&&◌, ℕ, Some, length, if◌then◌else◌};
+ghost use Rattle.std.specs.Prelude.{◌≡◌, ◌+◌, ◌<◌, ◌^◌, ◌&&◌, ℕ, Some, not, length, filter, if◌then◌else◌};
+ghost use Rattle.std.specs.Prelude.{map as map_list};
 ghost use Rattle.std.specs.Option.{option_map};
 ghost use Rattle.std.specs.FinMap as map;
 ghost use Rattle.sid_core.specs.declared.ids.LeaseName.{LeaseName};
+ghost use Rattle.serial_table.specs.View.{View};
+ghost use Rattle.serial_table.specs.Durable.{is_expired};
+ghost use Rattle.record_codec.specs.Counts.{entry_counts};
 ghost use Rattle.record_codec.specs.ShareRec.{IsShareRec};
 ghost use Rattle.leases_db.specs.Granted.{IsRecord};
 ghost use Rattle.leases_db.specs.Refs.{without};
+ghost use Rattle.record_rows.specs.Rows.{open_row};
+ghost use Rattle.durable_open.specs.Naming.{recorded};
 ghost use Rattle.durable_open.specs.Keeping.{is_kept_by};
-ghost use Rattle.durable_open.specs.Sweep.{is_kept_at, is_kept_among, goes, once_dropped, once_gone, kept_of, leases_after};
+ghost use Rattle.durable_open.specs.Sweep.{is_kept_at, is_kept_among, goes, once_dropped, once_gone, kept_of, leases_after, Agree, ShowsOpens};
 
 use crate::deadlines::is_expired;
 use crate::keeping::is_kept_by;
@@ -105,6 +111,9 @@ pub fn scavenge(rec: &mut ShareRec, leases: &mut Leases, register: &Register, no
     ensures record { rec.new ≡ record rec.old { entries = kept_of register.now rec.old.file now (map.get leases.old) rec.old.entries } }
     ensures leases { map.get leases.new ≡ leases_after register.now rec.old.file now (map.get leases.old) rec.old.entries }
     ensures count { result + length rec.new.entries ≡ length rec.old.entries }
+    ensures entries { Agree register.now rec.old.file now (map.get leases.old) rec.old.entries → rec.new.entries ≡ filter (λ e. not (goes register.now rec.old.file now (map.get leases.old) e)) rec.old.entries }
+    ensures answer { (v : View) → Agree register.now rec.old.file now (map.get leases.old) rec.old.entries → ShowsOpens register.now rec.old.file (map.get leases.old) rec.old.entries v → result ≡ length (filter (is_expired v now) (v.opens_of rec.old.file)) }
+    ensures opens { (v : View) → Agree register.now rec.old.file now (map.get leases.old) rec.old.entries → ShowsOpens register.now rec.old.file (map.get leases.old) rec.old.entries v → map_list (open_row rec.old.file) (filter (entry_counts (recorded register.now (map.get leases.old)) rec.old.file) rec.new.entries) ≡ filter (λ o. not (is_expired v now o)) (v.opens_of rec.old.file) }
     ensures sets { IsShareRec rec.old → IsShareRec rec.new }
     ensures lease_sets { ((name : LeaseName) → IsRecord (map.get leases.old name)) → (name : LeaseName) → IsRecord (map.get leases.new name) }
 {

@@ -20,6 +20,8 @@ mod chains;
 #[cfg(test)]
 mod data;
 #[cfg(test)]
+mod durable;
+#[cfg(test)]
 mod leases;
 #[cfg(test)]
 mod lines;

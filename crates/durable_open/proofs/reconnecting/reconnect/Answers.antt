@@ -22,9 +22,11 @@ returns-then-found-clause-opens c = λ leases setup v worker call names taken.
     ∙ rows_so c.args.register.now leases c.args.lease.now c.args.rec.now c.args.name c.args.id setup v worker call c.args.owner c.args.handle c.args.now names (sym (c.take_over_entries-found.ensures.found ∙ ap (list_any (is_taken c.args.register.now c.args.lease.now c.args.name c.args.rec.now.file c.args.now c.args.id)) c.take_entries-entries.ensures.taken) ∙ taken)
 
 pub returns-then-found-clause-sets : goal.returns-then-found-clause-sets
-returns-then-found-clause-sets c = λ sets lease o h.
-    ((subst (λ (entries : List ShareEntry). IsShareRec (record c.args.rec.now { entries = entries })) (sym (c.from_vec.ensures ∙ c.take_over_entries-found.ensures.entries ∙ ap (map (taken_over (is_taken c.args.register.now c.args.lease.now c.args.name c.args.rec.now.file c.args.now c.args.id) c.args.owner c.args.handle)) c.take_entries-entries.ensures.taken))
-      (taken_over_keeps (is_taken c.args.register.now c.args.lease.now c.args.name c.args.rec.now.file c.args.now c.args.id) c.args.owner c.args.handle c.args.rec.now sets o h)), c.take_over_lease.ensures.sets lease o)
+returns-then-found-clause-sets c = λ sets lease o h. (
+  (subst (λ (entries : List ShareEntry). IsShareRec (record c.args.rec.now { entries = entries })) (sym (c.from_vec.ensures ∙ c.take_over_entries-found.ensures.entries ∙ ap (map (taken_over (is_taken c.args.register.now c.args.lease.now c.args.name c.args.rec.now.file c.args.now c.args.id) c.args.owner c.args.handle)) c.take_entries-entries.ensures.taken))
+      (taken_over_keeps (is_taken c.args.register.now c.args.lease.now c.args.name c.args.rec.now.file c.args.now c.args.id) c.args.owner c.args.handle c.args.rec.now sets o h)),
+  c.take_over_lease.ensures.sets lease o,
+)
 
 pub returns-else-found-clause-refused : goal.returns-else-found-clause-refused
 returns-else-found-clause-refused c = λ refused.
@@ -38,6 +40,8 @@ returns-else-found-clause-answer c = λ leases setup v worker call names.
     ∙ ap (λ b. answer b c.args.lease.now.held c.args.rec.now.file c.args.id c.args.owner c.args.handle) (sym c.if-found.false)
 
 pub returns-else-found-clause-sets : goal.returns-else-found-clause-sets
-returns-else-found-clause-sets c = λ sets lease o h.
-    ((subst (λ (entries : List ShareEntry). IsShareRec (record c.args.rec.now { entries = entries })) (sym (c.from_vec.ensures ∙ c.take_over_entries-found.ensures.entries ∙ ap (map (taken_over (is_taken c.args.register.now c.args.lease.now c.args.name c.args.rec.now.file c.args.now c.args.id) c.args.owner c.args.handle)) c.take_entries-entries.ensures.taken))
-      (taken_over_keeps (is_taken c.args.register.now c.args.lease.now c.args.name c.args.rec.now.file c.args.now c.args.id) c.args.owner c.args.handle c.args.rec.now sets o h)), lease)
+returns-else-found-clause-sets c = λ sets lease o h. (
+  (subst (λ (entries : List ShareEntry). IsShareRec (record c.args.rec.now { entries = entries })) (sym (c.from_vec.ensures ∙ c.take_over_entries-found.ensures.entries ∙ ap (map (taken_over (is_taken c.args.register.now c.args.lease.now c.args.name c.args.rec.now.file c.args.now c.args.id) c.args.owner c.args.handle)) c.take_entries-entries.ensures.taken))
+      (taken_over_keeps (is_taken c.args.register.now c.args.lease.now c.args.name c.args.rec.now.file c.args.now c.args.id) c.args.owner c.args.handle c.args.rec.now sets o h)),
+  lease,
+)
