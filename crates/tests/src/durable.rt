@@ -104,6 +104,21 @@ fn lease(alloc: Global, held: u8, opens: &[(u32, u32)]) -> Result<LeaseRec, OutO
     })
 }
 
+// Of the entry at this place its owner's pid and its handle.
+fn held_at(rec: &ShareRec, place: usize) -> Option<(u32, u32)> {
+    match rec.entries.as_slice().get(place) {
+        Some(entry) => Some((entry.owner.pid, entry.handle)),
+        None => None,
+    }
+}
+
+fn owner_at(lease: &LeaseRec, place: usize) -> Option<u32> {
+    match lease.refs.as_slice().get(place) {
+        Some(reference) => Some(reference.owner.pid),
+        None => None,
+    }
+}
+
 const OPENS: [(u32, u32); 3] = [(1, 60), (2, 60), (3, 100)];
 
 // Whether pid 101 can take up the open of this call with its call 9, under that lease.
@@ -160,10 +175,9 @@ fn durable_opens_are_taken_up_again(rt: HostRuntime) -> Result<(), Fail> {
             Moment(64)
         )
     );
-    assert_eq!(rt; rec.entries.as_slice()[2].owner.pid, 101);
-    assert_eq!(rt; rec.entries.as_slice()[2].handle, 9);
-    assert_eq!(rt; rec.entries.as_slice()[1].handle, 2);
-    assert_eq!(rt; lease.refs.as_slice()[2].owner.pid, 101);
+    assert!(rt; held_at(&rec, 2) == Some((101, 9)));
+    assert!(rt; held_at(&rec, 1) == Some((owner_of(2).pid, 2)));
+    assert!(rt; owner_at(&lease, 2) == Some(101));
     Ok(())
 }
 
@@ -196,7 +210,7 @@ fn durable_opens_expire(rt: HostRuntime) -> Result<(), Fail> {
             None => assert!(rt; false),
         }
     }
-    assert_eq!(rt; rec.entries.as_slice()[0].handle, 1);
+    assert!(rt; held_at(&rec, 0) == Some((owner_of(1).pid, 1)));
     // An open that doesn't count stays, and isn't told of: its lease has no HANDLE.
     let mut rec = share(alloc, &[(3, 10)])?;
     let mut leases = Leases::new(alloc);
