@@ -3,42 +3,31 @@
 -- The register record of the worker is written, and the mailboxes of the worker and of all who wait behind its session. Of the other records
 -- some parts count no longer: entries, references and ranges of opens that went, holds of the session, and watches of waiters that went. What
 -- settling leaves of a lease elsewhere is what is left of its record.
-use Rattle.std.proofs.Common.{◌≡◌, ℕ, Bool, false, not, List, [], ◌∷◌, ◌++◌, map, Option, Some, None, refl, sym, ap, ◌∙◌, subst, inl}
-use Rattle.std.specs.List.{list_any, AllByRecursion}
+use Rattle.std.proofs.Common.{◌≡◌, ℕ, not, List, [], ◌∷◌, ◌++◌, map, Option, Some, None, refl, sym, ap, ◌∙◌, inl}
 use Rattle.std.specs.Option.{option_map, option_map_or}
 use Rattle.std.specs.Prelude.{IsSome}
 use Rattle.std.proofs.lemmas.Bool.{and_parts}
 use Rattle.sid_core.specs.declared.entry.Entry.{Entry}
 use Rattle.sid_core.specs.declared.entry.Event.TheVariants.{Died}
-use Rattle.sid_core.specs.declared.entry.Post.{Post}
 use Rattle.sid_core.specs.declared.ids.Moment.{Moment}
-use Rattle.sid_core.specs.declared.ids.Sid.{Sid}
 use Rattle.sid_core.specs.declared.setup.Setup.{Setup}
 use Rattle.sid_core.specs.Setup.{IsSetup}
 use Rattle.sid_core.specs.Ids.{same_sid}
 use Rattle.serial_table.specs.declared.table.Table.{Table}
-use Rattle.serial_table.specs.declared.change.Change.{Change}
 use Rattle.serial_table.specs.declared.change.Change.TheVariants as c
 use Rattle.serial_table.specs.declared.decision.Caller.{Caller}
-use Rattle.serial_table.specs.View.{View, view, has_pid, lives}
+use Rattle.serial_table.specs.View.{view}
 use Rattle.serial_table.specs.Settle.{settle_where}
-use Rattle.serial_table.specs.Change.{perform, perform_all, end_session}
-use Rattle.serial_table.specs.Decision.{Outcome, waits_no_more, conclude}
-use Rattle.serial_table.specs.Session.{end_of_session, wakes_behind}
+use Rattle.serial_table.specs.Change.{perform, end_session}
+use Rattle.serial_table.specs.Decision.{Outcome, conclude}
+use Rattle.serial_table.specs.Session.{end_of_session}
 use Rattle.serial_table.specs.Step.{caller_of, changes_of}
 use Rattle.serial_table.specs.History.{start, after, IsLegal, IsLegalDeath}
-use Rattle.serial_table.specs.Sound.{AllFit}
-use Rattle.serial_table.proofs.Alike.{after_all-append}
 use Rattle.serial_table.proofs.Along.{legal_before}
 use Rattle.serial_table.proofs.Callers.{is_caller_of}
-use Rattle.serial_table.proofs.Concluding.{perform_all-append}
-use Rattle.serial_table.proofs.Entries.{entry_fits}
 use Rattle.serial_table.proofs.Living.{lives_among}
-use Rattle.stored_table.specs.Decoded.{records_of}
 use Rattle.stored_table.specs.Met.{met_by_worker, all_met, nothing_met}
 use Rattle.table_laws.specs.Standing.{KeepsStanding}
-use Rattle.table_laws.proofs.Lists.{all_joined}
-use Rattle.table_laws.proofs.Thinning.{Thins, IsThinned, thinned}
 use Rattle.table_laws.proofs.Ending.{lives_ended, ended, others_ended}
 use Rattle.table_laws.proofs.LessEvents.{ended_stands}
 

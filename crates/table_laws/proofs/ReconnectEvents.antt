@@ -62,7 +62,7 @@ use Rattle.stored_table.specs.Keys.{open_key, pid_key, name_key, file_key}
 use Rattle.stored_table.specs.Places.{Chains, Place, place, among}
 use Rattle.stored_table.specs.Decoded.{AllRecords, records_of}
 use Rattle.stored_table.specs.Met.{KeyList, met_by_call, met_by_reconnect, all_met, named_at, file_of, nothing_met, record_at}
-use Rattle.stored_table.specs.Move.{AddedOpen, added, added_for, move, places_written, added_by_caller}
+use Rattle.stored_table.specs.Move.{added, added_for, move, places_written, added_by_caller}
 use Rattle.stored_table.specs.Moved.{moved}
 use Rattle.stored_table.specs.Stands.{HasOpenRecords, StandsFor}
 use Rattle.stored_table.proofs.Telling.{not_declared}

@@ -3,13 +3,11 @@
 -- It writes what a death writes. The session that begins has no part in any record, so nothing stale comes to count.
 use Rattle.std.proofs.Common.{◌≡◌, ℕ, ◌+◌, ◌≤◌, Bool, true, false, cond, not, ◌==◌, ◌&&◌, List, [], ◌∷◌, ◌++◌, map, find, Option, Some, None, refl, sym, ap, ◌∙◌, subst, inl, inr, ◌⊎◌, arith}
 use Rattle.std.specs.Prelude.{nat_le}
-use Rattle.std.specs.List.{AllByRecursion}
 use Rattle.std.specs.Option.{option_map, option_map_or}
 use Rattle.std.proofs.lemmas.Bool.{and_parts, and_left, cond-false, eqb-true, leb-true, false_from_ne_true}
 use Rattle.sid_core.specs.declared.call.Call.TheVariants.{Disconnect}
 use Rattle.sid_core.specs.declared.entry.Entry.{Entry}
 use Rattle.sid_core.specs.declared.entry.Event.TheVariants.{Called}
-use Rattle.sid_core.specs.declared.entry.Post.{Post}
 use Rattle.sid_core.specs.declared.ids.Moment.{Moment}
 use Rattle.sid_core.specs.declared.ids.Sid.{Sid}
 use Rattle.sid_core.specs.declared.reply.Reply.{Reply}
@@ -22,23 +20,20 @@ use Rattle.serial_table.specs.declared.table.Table.{Table}
 use Rattle.serial_table.specs.declared.change.Change.{Change}
 use Rattle.serial_table.specs.declared.change.Change.TheVariants as c
 use Rattle.serial_table.specs.declared.decision.Caller.{Caller}
-use Rattle.serial_table.specs.View.{View, view, lives, has_pid}
+use Rattle.serial_table.specs.View.{view, lives, has_pid}
 use Rattle.serial_table.specs.File.{file_view, file_open}
 use Rattle.serial_table.specs.Settle.{settle, settle_where, row_stays, settle_file}
 use Rattle.serial_table.specs.Change.{perform, perform_all, outlives, end_session, begin_session}
-use Rattle.serial_table.specs.Decision.{Outcome, waits_no_more, conclude}
-use Rattle.serial_table.specs.Session.{end_of_session, wakes_behind}
+use Rattle.serial_table.specs.Decision.{Outcome, conclude}
+use Rattle.serial_table.specs.Session.{end_of_session}
 use Rattle.serial_table.specs.Disconnect.{disconnect}
 use Rattle.serial_table.specs.Decide.{outcome}
 use Rattle.serial_table.specs.Expire.{expired_by}
 use Rattle.serial_table.specs.Step.{caller_of, changes_of}
 use Rattle.serial_table.specs.History.{start, after, IsLegal, IsLegalCall}
-use Rattle.serial_table.specs.Sound.{AllFit, IsConsistent, has_had}
-use Rattle.serial_table.proofs.Alike.{after_all-append}
+use Rattle.serial_table.specs.Sound.{IsConsistent, has_had}
 use Rattle.serial_table.proofs.Along.{legal_before}
 use Rattle.serial_table.proofs.Callers.{is_caller_of}
-use Rattle.serial_table.proofs.Concluding.{perform_all-append}
-use Rattle.serial_table.proofs.Entries.{entry_fits}
 use Rattle.serial_table.proofs.Filters.{find-map}
 use Rattle.serial_table.proofs.Living.{lives_among, row_of, none_lives, lives-begin_session}
 use Rattle.serial_table.proofs.Members.{IsIn, found_in, in_filter, each}
@@ -46,13 +41,12 @@ use Rattle.serial_table.proofs.Settled.{files_settled, settled_by_files, settle-
 use Rattle.serial_table.proofs.Views.{pid-begin_session}
 use Rattle.stored_table.specs.Places.{Chains}
 use Rattle.stored_table.specs.Decoded.{AllRecords, records_of}
-use Rattle.stored_table.specs.Met.{met_by_call, met_by_worker, all_met, nothing_met}
+use Rattle.stored_table.specs.Met.{met_by_call, all_met, nothing_met}
 use Rattle.stored_table.specs.Move.{move}
 use Rattle.stored_table.specs.Stands.{StandsFor}
 use Rattle.table_laws.specs.Standing.{IsUnnamed, next_sid, KeepsStandingIfUnnamed}
-use Rattle.table_laws.proofs.Lists.{all_joined, same_test}
-use Rattle.table_laws.proofs.Thinning.{Thins, IsThinned, thinned}
-use Rattle.table_laws.proofs.Ending.{own_register, own_mail, behind_met, wakes_met, drops_leave, sends_add, lives_ended, ended, settled_with, AreWorkers, others_ended, dead, dead_before, ending}
+use Rattle.table_laws.proofs.Lists.{same_test}
+use Rattle.table_laws.proofs.Ending.{lives_ended, ended, AreWorkers, others_ended}
 use Rattle.table_laws.proofs.LessEvents.{fine_before, ended_stands}
 use Rattle.table_laws.proofs.Chains.{IsFine}
 

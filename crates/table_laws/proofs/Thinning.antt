@@ -2,7 +2,7 @@
 use Rattle.std.proofs.Common.{◌≡◌, ℕ, Bool, true, false, cond, not, ◌==◌, ◌&&◌, ◌||◌, List, [], ◌∷◌, map, filter, Option, Some, None, refl, sym, ap, ◌∙◌, subst, inl, inr}
 use Rattle.std.specs.List.{list_any, AllByRecursion}
 use Rattle.std.specs.Option.{option_map_or}
-use Rattle.std.proofs.lemmas.Bool.{and_parts, and_from, or_parts, both_ways, cond_both, cond-true, eqb-true, false_from_ne_true, not_from_false, true_from_ne_false, not-false, not-true}
+use Rattle.std.proofs.lemmas.Bool.{and_parts, and_from, or_parts, both_ways, cond_both, eqb-true, false_from_ne_true, not_from_false, true_from_ne_false, not-false, not-true}
 use Rattle.std.proofs.Math.Bool.{and-false, and-true}
 use Rattle.sid_core.specs.declared.ids.Sid.{Sid}
 use Rattle.sid_core.specs.declared.ids.OpenId.{OpenId}
