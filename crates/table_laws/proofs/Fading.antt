@@ -147,7 +147,7 @@ pub settles_to : (rows : List LeaseRow) (t : Table) → settle t ≡ t → perfo
 settles_to [] t settled = sym settled ∙ ap settle (rows_expire [] t)
 settles_to (l ∷ ls) t settled = perform_all-append (map expires (l ∷ ls)) (c.Settle ∷ []) t ∙ ap settle (rows_expire (l ∷ ls) t)
 
-name_faded : (rows : List LeaseRow) (y : LeaseRow) → (faded rows y).name ≡ y.name
+pub name_faded : (rows : List LeaseRow) (y : LeaseRow) → (faded rows y).name ≡ y.name
 name_faded [] y = refl
 name_faded (l ∷ ls) y = name_faded ls (set_lease l.file l.name (needed_of l) None y) ∙ name-set_lease l.file l.name (needed_of l) None y
 

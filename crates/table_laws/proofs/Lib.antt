@@ -37,3 +37,11 @@ pub mod ReconnectEvents
 pub mod Recorded
 pub mod FirstRecords
 pub mod HistoryEvents
+pub mod Showing
+pub mod Footprints
+pub mod SameFiles
+pub mod Answering
+pub mod HandleAnswers
+pub mod PlainAnswers
+pub mod AckAnswers
+pub mod OpenAnswers

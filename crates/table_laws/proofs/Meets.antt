@@ -36,12 +36,12 @@ use Rattle.stored_table.proofs.Writing.{same_itself}
 use Rattle.stored_table.proofs.Telling.{entries_are, file_tells}
 use Rattle.table_laws.proofs.Contained.{share_place, ranges_place, lock_place, lease_place, register_place, mail_place, IsMetName}
 
-part_first : {R A W : Type 0} (f : R → List A) (xs : List A) (ys : List W) (r : R) → f r ≡ xs → part_of f (unless_both_empty xs ys r) ≡ xs
+pub part_first : {R A W : Type 0} (f : R → List A) (xs : List A) (ys : List W) (r : R) → f r ≡ xs → part_of f (unless_both_empty xs ys r) ≡ xs
 part_first f [] [] r e = refl
 part_first f [] (y ∷ ys) r e = e
 part_first f (x ∷ xs) ys r e = e
 
-part_second : {R A W : Type 0} (f : R → List W) (xs : List A) (ys : List W) (r : R) → f r ≡ ys → part_of f (unless_both_empty xs ys r) ≡ ys
+pub part_second : {R A W : Type 0} (f : R → List W) (xs : List A) (ys : List W) (r : R) → f r ≡ ys → part_of f (unless_both_empty xs ys r) ≡ ys
 part_second f [] [] r e = refl
 part_second f [] (y ∷ ys) r e = e
 part_second f (x ∷ xs) ys r e = e

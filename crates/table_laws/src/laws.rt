@@ -22,6 +22,7 @@ ghost use Rattle.serial_table.specs.View.{View, view};
 ghost use Rattle.serial_table.specs.declared.decision.Caller.{Caller};
 ghost use Rattle.stored_table.specs.Places.{Chains, Place, HasChains, among, value_at};
 ghost use Rattle.stored_table.specs.Move.{move, places_written};
+ghost use Rattle.table_laws.specs.ByFootprint.{IsLegalByFootprint};
 ghost use Rattle.table_laws.specs.Reached.{ReachesUnchanged, SamePartsCount};
 ghost use Rattle.table_laws.specs.Standing.{HistoryStands, LegalKeepsStanding, LegalKeepsStandingIfNew, LegalKeepsStandingIfUnnamed, NameNothingNew, call_entry};
 
@@ -124,4 +125,56 @@ pub fn records_name_nothing_new()
 /// What a legal history makes of the first chains, with whatever number of chains per database, stands for the table after it.
 pub fn histories_stand()
     ensures { (setup : Setup) (n : ℕ) (history : List Entry) → IsSetup setup → 1 ≤ n → IsLegal setup history → HistoryStands setup n history }
+{}
+
+/// What is legal goes by the footprint alone: where two databases stand for the tables behind legal histories and agree on the footprint of
+/// a call by a handle, the same answer is legal at both.
+pub fn calls_by_handle_go_by_the_footprint()
+    ensures close { (setup : Setup) (n by seq number : ℕ) (moment : Moment) (handle : ℕ) (reply : Reply)
+        → IsLegalByFootprint setup n (call_entry by seq number moment (call.Close handle) reply) }
+    ensures delete { (setup : Setup) (n by seq number : ℕ) (moment : Moment) (handle : ℕ) (on : Bool) (reply : Reply)
+        → IsLegalByFootprint setup n (call_entry by seq number moment (call.Delete handle on) reply) }
+    ensures lock { (setup : Setup) (n by seq number : ℕ) (moment : Moment) (handle : ℕ) (span : Span) (mode : Mode) (wait : Bool) (reply : Reply)
+        → IsLegalByFootprint setup n (call_entry by seq number moment (call.Lock handle span mode wait) reply) }
+    ensures unlock { (setup : Setup) (n by seq number : ℕ) (moment : Moment) (handle : ℕ) (span : Span) (reply : Reply)
+        → IsLegalByFootprint setup n (call_entry by seq number moment (call.Unlock handle span) reply) }
+    ensures read { (setup : Setup) (n by seq number : ℕ) (moment : Moment) (handle : ℕ) (span : Span) (reply : Reply)
+        → IsLegalByFootprint setup n (call_entry by seq number moment (call.Read handle span) reply) }
+    ensures write { (setup : Setup) (n by seq number : ℕ) (moment : Moment) (handle : ℕ) (span : Span) (reply : Reply)
+        → IsLegalByFootprint setup n (call_entry by seq number moment (call.Write handle span) reply) }
+{}
+
+/// What is legal goes by the footprint alone: the same of `ack`.
+pub fn acknowledgements_go_by_the_footprint()
+    ensures { (setup : Setup) (n by seq number : ℕ) (moment : Moment) (key : ℕ) (state : LeaseState) (reply : Reply)
+        → IsLegalByFootprint setup n (call_entry by seq number moment (call.Ack key state) reply) }
+{}
+
+/// What is legal goes by the footprint alone: the same of `open`.
+pub fn opens_go_by_the_footprint()
+    ensures { (setup : Setup) (n by seq number : ℕ) (moment : Moment) (file : ℕ) (access : Access) (share : Share) (lease : Option LeaseAsk) (durable : ℕ) (overwrite delete : Bool) (reply : Reply)
+        → IsLegalByFootprint setup n (call_entry by seq number moment (call.OpenFile file access share lease durable overwrite delete) reply) }
+{}
+
+/// What is legal goes by the footprint alone: the same of `glock`, `gunlock`, `recv`, `disconnect`, `tidy` and `status`.
+pub fn calls_of_no_file_go_by_the_footprint()
+    ensures glock { (setup : Setup) (n by seq number : ℕ) (moment : Moment) (key : ℕ) (mode : Mode) (wait : Bool) (reply : Reply)
+        → IsLegalByFootprint setup n (call_entry by seq number moment (call.GLock key mode wait) reply) }
+    ensures gunlock { (setup : Setup) (n by seq number : ℕ) (moment : Moment) (key : ℕ) (reply : Reply)
+        → IsLegalByFootprint setup n (call_entry by seq number moment (call.GUnlock key) reply) }
+    ensures recv { (setup : Setup) (n by seq number : ℕ) (moment : Moment) (reply : Reply)
+        → IsLegalByFootprint setup n (call_entry by seq number moment call.Recv reply) }
+    ensures disconnect { (setup : Setup) (n by seq number : ℕ) (moment : Moment) (reply : Reply)
+        → IsLegalByFootprint setup n (call_entry by seq number moment call.Disconnect reply) }
+    ensures tidy { (setup : Setup) (n by seq number : ℕ) (moment : Moment) (reply : Reply)
+        → IsLegalByFootprint setup n (call_entry by seq number moment call.Tidy reply) }
+    ensures status { (setup : Setup) (n by seq number : ℕ) (moment : Moment) (tables : Tables) (reply : Reply)
+        → IsLegalByFootprint setup n (call_entry by seq number moment (call.Status tables) reply) }
+{}
+
+/// What is legal goes by the footprint alone: the same of a death, and of a tidied chain, which always is legal.
+pub fn deaths_go_by_the_footprint()
+    ensures died { (setup : Setup) (n by seq worker : ℕ) (moment : Moment)
+        → IsLegalByFootprint setup n (record { by = by; seq = seq; what = Died worker moment }) }
+    ensures tidied { (setup : Setup) (n by seq chain : ℕ) → IsLegalByFootprint setup n (record { by = by; seq = seq; what = Tidied chain }) }
 {}

@@ -5,8 +5,11 @@
 mod laws;
 
 pub use laws::{
-    acknowledgements_keep_standing, calls_by_handle_keep_standing, calls_of_no_file_keep_standing,
-    calls_that_wait_keep_standing, deaths_keep_standing, disconnects_keep_standing,
-    histories_stand, opens_keep_standing, reconnects_keep_standing, records_name_nothing_new,
-    scavenges_keep_standing, tidied_chains_keep_standing, what_counts_elsewhere_stays,
+    acknowledgements_go_by_the_footprint, acknowledgements_keep_standing,
+    calls_by_handle_go_by_the_footprint, calls_by_handle_keep_standing,
+    calls_of_no_file_go_by_the_footprint, calls_of_no_file_keep_standing,
+    calls_that_wait_keep_standing, deaths_go_by_the_footprint, deaths_keep_standing,
+    disconnects_keep_standing, histories_stand, opens_go_by_the_footprint, opens_keep_standing,
+    reconnects_keep_standing, records_name_nothing_new, scavenges_keep_standing,
+    tidied_chains_keep_standing, what_counts_elsewhere_stays,
 };

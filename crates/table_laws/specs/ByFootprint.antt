@@ -1,0 +1,23 @@
+-- What it means that an entry goes by the chains of its footprint alone.
+use Rattle.std.specs.Prelude.{◌≡◌, ℕ, List}
+use Rattle.std.specs.List.{AllByRecursion}
+use Rattle.sid_core.specs.declared.entry.Entry.{Entry}
+use Rattle.sid_core.specs.declared.setup.Setup.{Setup}
+use Rattle.sid_core.specs.Setup.{IsSetup}
+use Rattle.serial_table.specs.View.{view}
+use Rattle.serial_table.specs.History.{after, IsLegal, IsLegalEntry}
+use Rattle.stored_table.specs.Places.{Chains, chain_at}
+use Rattle.stored_table.specs.Footprint.{footprint}
+use Rattle.stored_table.specs.Stands.{StandsFor}
+
+-- The chains of the entry's footprint are the same in both.
+abbrev pub AgreeOnFootprint : Setup → ℕ → Chains → Chains → Entry → Type 0
+AgreeOnFootprint setup n k j e = AllByRecursion (λ c. chain_at k c ≡ chain_at j c) (footprint setup n k e)
+
+-- Of chains that stand for the table behind a legal history, and others that stand for that behind another, and agree with them on the
+-- entry's footprint: where the entry is legal at the one table, it is legal at the other.
+abbrev pub IsLegalByFootprint : Setup → ℕ → Entry → Type 0
+IsLegalByFootprint setup n e =
+    (k j : Chains) (before other : List Entry) → IsSetup setup → IsLegal setup before → IsLegal setup other
+    → StandsFor setup n k (view (after setup before)) → StandsFor setup n j (view (after setup other)) → AgreeOnFootprint setup n k j e
+    → IsLegalEntry setup (after setup before) e → IsLegalEntry setup (after setup other) e
