@@ -29,7 +29,7 @@ use Rattle.stored_table.specs.Keys.{pid_key, name_key, file_key}
 use Rattle.stored_table.specs.Places.{Chains, Place, place, same_place, among}
 use Rattle.stored_table.specs.Decoded.{AllRecords, deciding, records_of}
 use Rattle.stored_table.specs.Exact.{unless_both_empty, entry_of, hold_of, watch_of, exact_lock}
-use Rattle.stored_table.specs.Met.{KeyList, Met, places_in, exact_places, all_met, record_at, name_of_entry, names_in, entry_owners, watchers, met_owners, met_watchers, met_by_files}
+use Rattle.stored_table.specs.Met.{KeyList, Met, places_in, exact_places, all_met, record_at, name_of_entry, names_in, entry_owners, watchers, met_by_files}
 use Rattle.stored_table.specs.Shown.{part_of, watch_row, open_watches, range_watches}
 use Rattle.stored_table.specs.Stands.{AgreeWith, clean_lock}
 use Rattle.stored_table.proofs.Writing.{same_itself}

@@ -43,7 +43,7 @@ use Rattle.stored_table.specs.Shown.{part_of}
 use Rattle.table_laws.specs.Standing.{IsUnnamed}
 use Rattle.table_laws.proofs.Contained.{share_place, lock_place, lease_place, register_place}
 use Rattle.table_laws.proofs.Exactly.{refs_back}
-use Rattle.table_laws.proofs.Stepping.{part_first}
+use Rattle.table_laws.proofs.Meets.{part_first}
 
 -- By pid, low gives the last number of a call.
 pub record IsRecorded (low : ℕ → ℕ) (t : Table) (s : AllRecords) : Type 0 where
