@@ -215,7 +215,7 @@ module _ (setup : Setup) (n by seq number : ℕ) (moment : Moment) (key : ℕ) (
 
   pub ack_legal : IsLegalByFootprint setup n (call_entry by seq number moment (call.Ack key state) reply)
   ack_legal =
-      legal_if setup n by seq number moment (call.Ack key state) reply (λ k j a caller info declared pid guid same.
+      legal_if setup n by seq number moment (call.Ack key state) reply (λ k j a caller info declared pid guid in_sets same.
       let at = at_met setup n k j (call_entry by seq number moment (call.Ack key state) reply) (met_by_name n k info (record { guid = info.guid; key = key })) (by_declared setup n k by number (call.Ack key state) info declared) same in
       record {
         worker = λ t stands alive. own_register_same setup n k j [] [] (files_with n k (record { guid = info.guid; key = key })) (name_key (record { guid = info.guid; key = key }) ∷ []) (pid_key info.pid ∷ []) at info.pid (inl refl);

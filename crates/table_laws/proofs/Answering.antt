@@ -7,6 +7,7 @@ use Rattle.sid_core.specs.declared.ids.Moment.{Moment}
 use Rattle.sid_core.specs.declared.reply.Reply.{Reply}
 use Rattle.sid_core.specs.declared.setup.Setup.{Setup}
 use Rattle.sid_core.specs.declared.setup.WorkerInfo.{WorkerInfo}
+use Rattle.sid_core.specs.Call.{IsCall}
 use Rattle.serial_table.specs.declared.rows.WorkerRow.{WorkerRow}
 use Rattle.serial_table.specs.declared.table.Table.{Table}
 use Rattle.serial_table.specs.declared.decision.Caller.{Caller}
@@ -84,7 +85,7 @@ pub record IsAnsweredAlike (setup : Setup) (n : ℕ) (k j : Chains) (which : Cal
       → (decide setup (view (perform_all (expired_by setup (view t) caller which) t)) caller which).reply ≡ (decide setup (view (perform_all (expired_by setup (view u) caller which) u)) caller which).reply
 
 module _ (setup : Setup) (n by seq number : ℕ) (moment : Moment) (which : Call) (reply : Reply)
-    (owes : (k j : Chains) → HasChains n k → (caller : Caller) (info : WorkerInfo) → declared_at setup.workers by ≡ Some info → caller.sid.pid ≡ info.pid → caller.guid ≡ info.guid
+    (owes : (k j : Chains) → HasChains n k → (caller : Caller) (info : WorkerInfo) → declared_at setup.workers by ≡ Some info → caller.sid.pid ≡ info.pid → caller.guid ≡ info.guid → IsCall setup which
     → ((p : Place) → among p (all_met (met setup n k (call_entry by seq number moment which reply))) ≡ true → value_at n k p ≡ value_at n j p) → IsAnsweredAlike setup n k j which caller info) where
   pub legal_if : IsLegalByFootprint setup n (call_entry by seq number moment which reply)
   legal_if k j before other is legal legal_other stands stands_other agree at = from_caller (caller_of setup (view (after setup before)) by number moment) refl
@@ -98,7 +99,7 @@ module _ (setup : Setup) (n by seq number : ℕ) (moment : Moment) (which : Call
           let t = after setup before in
           let u = after setup other in
           let of = is_caller_of setup t by number moment caller from in
-          let alike = owes k j stands.well_formed.chains caller of.info of.declared of.pid of.guid_is (met_value setup n k j (call_entry by seq number moment which reply) stands.well_formed.chains agree) in
+          let alike = owes k j stands.well_formed.chains caller of.info of.declared of.pid of.guid_is at.in_sets (met_value setup n k j (call_entry by seq number moment which reply) stands.well_formed.chains agree) in
           let from_other = sym (caller_same setup (records_of setup n k) (records_of setup n j) t u stands.agree stands_other.agree by number moment of.info of.declared (alike.worker t stands of.alive)) ∙ from in
           let answers = alike.answers t u stands stands_other (legal_is_fine setup before is legal) (legal_is_fine setup other is legal_other) of.alive (is_caller_of setup u by number moment caller from_other).alive
           (after_all-settled setup (start setup) before (start-settled setup)) (after_all-settled setup (start setup) other (start-settled setup)) in

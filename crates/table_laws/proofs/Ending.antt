@@ -18,7 +18,7 @@ use Rattle.serial_table.specs.declared.rows.Watch.{Watch}
 use Rattle.serial_table.specs.declared.table.Table.{Table}
 use Rattle.serial_table.specs.declared.change.Change.TheVariants as c
 use Rattle.serial_table.specs.View as table
-use Rattle.serial_table.specs.View.{View, view, has_pid, is_to, is_hold_of, is_end_of, is_of_file, waits_behind, watch_behind}
+use Rattle.serial_table.specs.View.{View, view, has_pid, is_to, is_hold_of, is_end_of, is_of_file}
 use Rattle.serial_table.specs.File.{file_view, file_open}
 use Rattle.serial_table.specs.Settle.{settle_where, settle_by_key, keeps_open, row_stays}
 use Rattle.serial_table.specs.Change.{perform, perform_all, is_other_wait, outlives, end_session, end_at}
@@ -31,7 +31,7 @@ use Rattle.serial_table.proofs.SameIds.{same_sid-refl}
 use Rattle.serial_table.proofs.Views.{pid-end_session, view-perform}
 use Rattle.serial_table.proofs.Filters.{filter-filter, filter_one_out, find-map}
 use Rattle.serial_table.proofs.Living.{lives_among, row_of, lives_had}
-use Rattle.serial_table.proofs.Members.{IsIn, each, any_of, one_of, in_filter, in_map, in_append, passes_in, mapped_in, found_in}
+use Rattle.serial_table.proofs.Members.{IsIn, each, in_filter, in_map, mapped_in, found_in, old_in}
 use Rattle.chain_map.specs.declared.db.Db.TheVariants as db
 use Rattle.record_codec.specs.declared.watch.WatchRec.{WatchRec}
 use Rattle.record_codec.specs.declared.register_rec.RegisterRec.{RegisterRec}
@@ -90,9 +90,6 @@ module _ (setup : Setup) (n : ℕ) (k : Chains) (t : Table) (agree : AgreeWith s
       (old_in (named_at register_rec (λ r. watchers r.watchers) n k db.Register own_met.register) _ key
       (flat_mapped_in (λ key. option_map_or (λ (r : RegisterRec). watchers r.watchers) (record_at register_rec n k db.Register key) []) own_met.register (pid_key sid.pid) key own_key
       (subst (λ o. IsIn key (option_map_or (λ (r : RegisterRec). watchers r.watchers) o [])) (sym r.1) (mapped_in (λ (x : WatchRec). pid_key x.sid.pid) r.0.watchers (watch_of y) r.2)))))
-    where
-      old_in : {X : Type 0} (xs ys : List X) (x : X) → IsIn x xs → IsIn x (xs ++ ys)
-      old_in xs ys x i = Rattle.serial_table.proofs.Members.old_in xs ys x i
 
 -- ---- waiters that go
 

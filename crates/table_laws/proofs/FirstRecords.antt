@@ -1,11 +1,14 @@
 -- The first records name no session that a worker hasn't had, and no call.
 use Rattle.std.proofs.Common.{◌≡◌, ℕ, ◌*◌, ◌≤◌, Bool, true, false, cond, [], replicate, Option, Some, None, refl, sym, ap, ◌∙◌, subst}
 use Rattle.std.specs.Option.{option_map, option_and_then}
+use Rattle.std.specs.List.{AllByRecursion}
 use Rattle.std.proofs.lemmas.List.{get_or-replicate, length-replicate}
 use Rattle.sid_core.specs.declared.ids.Sid.{Sid}
+use Rattle.sid_core.specs.declared.ids.LeaseName.{LeaseName}
 use Rattle.sid_core.specs.declared.setup.FileInfo.{FileInfo}
 use Rattle.sid_core.specs.declared.setup.Setup.{Setup}
 use Rattle.sid_core.specs.Setup.{IsSetup}
+use Rattle.sid_core.specs.Ids.{same_sid}
 use Rattle.serial_table.specs.declared.rows.WorkerRow.{WorkerRow}
 use Rattle.serial_table.specs.ByNumber.{declared_at}
 use Rattle.serial_table.specs.View.{View, view}
@@ -15,6 +18,12 @@ use Rattle.chain_map.specs.declared.db.Db.TheVariants as db
 use Rattle.chain_map.specs.Pairs as pairs
 use Rattle.record_codec.specs.declared.watch.WatchRec.{WatchRec}
 use Rattle.record_codec.specs.declared.register_rec.RegisterRec.{RegisterRec}
+use Rattle.record_codec.specs.declared.share_rec.ShareEntry.{ShareEntry}
+use Rattle.record_codec.specs.declared.share_rec.ShareRec.{ShareRec}
+use Rattle.record_codec.specs.declared.glock_rec.GLockRec.{GLockRec}
+use Rattle.record_codec.specs.declared.glock_rec.Hold.{Hold}
+use Rattle.record_codec.specs.declared.lease_rec.LeaseRec.{LeaseRec}
+use Rattle.record_codec.specs.declared.lease_rec.LeaseRef.{LeaseRef}
 use Rattle.record_codec.specs.Codec.{Codec}
 use Rattle.record_codec.specs.GLockRec.{glock_rec}
 use Rattle.record_codec.specs.ShareRec.{share_rec}
@@ -69,7 +78,7 @@ module _ (setup : Setup) (n : ℕ) (is : IsSetup setup) (some : 1 ≤ n) where
   no_lock : (key : ℕ) → (records_of setup n (first_chains setup n)).locks key ≡ None
   no_lock key = let p = place db.GLock (lock_key key) in ap (decoded glock_rec) (first_value p) ∙ none_decoded glock_rec (written p) (is_key db.GLock (lock_key key))
 
-  no_lease : (name : Rattle.sid_core.specs.declared.ids.LeaseName.LeaseName) → (records_of setup n (first_chains setup n)).leases name ≡ None
+  no_lease : (name : LeaseName) → (records_of setup n (first_chains setup n)).leases name ≡ None
   no_lease name = let p = place db.Leases (name_key name) in ap (decoded lease_rec) (first_value p) ∙ none_decoded lease_rec (written p) (is_key db.Leases (name_key name))
 
   no_share_of : (file : ℕ) (o : Option FileInfo) → option_and_then (share_of v file) o ≡ None
@@ -105,9 +114,9 @@ module _ (setup : Setup) (n : ℕ) (is : IsSetup setup) (some : 1 ≤ n) where
 
   first_unnamed : (sid : Sid) → IsUnnamed (records_of setup n (first_chains setup n)) sid
   first_unnamed sid = record {
-    holds = λ key. subst (λ o. Rattle.std.specs.List.AllByRecursion (λ (h : Rattle.record_codec.specs.declared.glock_rec.Hold.Hold). Rattle.sid_core.specs.Ids.same_sid sid h.sid ≡ false) (part_of (λ (r : Rattle.record_codec.specs.declared.glock_rec.GLockRec.GLockRec). r.holds) o)) (sym (no_lock key)) tt;
-    entries = λ file. subst (λ o. Rattle.std.specs.List.AllByRecursion (λ (e : Rattle.record_codec.specs.declared.share_rec.ShareEntry.ShareEntry). Rattle.sid_core.specs.Ids.same_sid sid e.owner ≡ false) (part_of (λ (r : Rattle.record_codec.specs.declared.share_rec.ShareRec.ShareRec). r.entries) o)) (sym (no_file file)) tt;
-    refs = λ name. subst (λ o. Rattle.std.specs.List.AllByRecursion (λ (ref : Rattle.record_codec.specs.declared.lease_rec.LeaseRef.LeaseRef). Rattle.sid_core.specs.Ids.same_sid sid ref.owner ≡ false) (part_of (λ (r : Rattle.record_codec.specs.declared.lease_rec.LeaseRec.LeaseRec). r.refs) o)) (sym (no_lease name)) tt;
+    holds = λ key. subst (λ o. AllByRecursion (λ (h : Hold). same_sid sid h.sid ≡ false) (part_of (λ (r : GLockRec). r.holds) o)) (sym (no_lock key)) tt;
+    entries = λ file. subst (λ o. AllByRecursion (λ (e : ShareEntry). same_sid sid e.owner ≡ false) (part_of (λ (r : ShareRec). r.entries) o)) (sym (no_file file)) tt;
+    refs = λ name. subst (λ o. AllByRecursion (λ (ref : LeaseRef). same_sid sid ref.owner ≡ false) (part_of (λ (r : LeaseRec). r.refs) o)) (sym (no_lease name)) tt;
   }
 
   pub first_recorded : (low : ℕ → ℕ) → IsRecorded low (start setup) (records_of setup n (first_chains setup n))

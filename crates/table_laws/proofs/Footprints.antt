@@ -136,7 +136,7 @@ module _ (setup : Setup) (n : ℕ) (k j : Chains) (opens locks files names own :
   module _ (file : ℕ) (here : IsIn (file_key setup file) files) where
     -- an entry of the file's record
     module _ (r : ShareRec) (is : s.shares file ≡ Some r) (e : ShareEntry) (i : IsIn e r.entries) where
-      owner_same : SameOwner s z e.owner
+      pub owner_same : SameOwner s z e.owner
       owner_same =
           let key = pid_key e.owner.pid in
           register_same e.owner.pid (later_in own _ key (later_in (named_at glock_rec holders n k db.GLock locks) _ key (old_in (named_at share_rec entry_owners n k db.Locking files) _ key

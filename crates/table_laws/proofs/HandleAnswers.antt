@@ -116,7 +116,7 @@ recorded setup s t agree sound sid pid handle own row i e =
     let owner : row.owner.pid ≡ pid = ap (λ (x : Sid). x.pid) (same_sid-eq row.owner sid p.0) ∙ own in
     sym (λ j. s.opens (owner j) (eqb-true row.handle handle p.1 j)) ∙ (all_of (HasOpenRecords s) ((view t).opens_of row.file) (agree.opens row.file) row (in_opens t sound row i)).by_handle
 
-file_of_record : (setup : Setup) (s : AllRecords) (t : Table) → AgreeWith setup s (view t) → IsSound t → (sid : Sid) (pid handle : ℕ) → sid.pid ≡ pid → (r : OpenRec) → s.opens pid handle ≡ Some r → AreOfFile sid handle r.file t
+file_of_record : (setup : Setup) (s : AllRecords) (t : Table) → AgreeWith setup s (view t) → IsSound t → (sid : Sid) (pid handle : ℕ) → sid.pid ≡ pid → (r : OpenRec) → s.opens pid handle ≡ Some r → AreOfFile (is_of_handle sid handle) r.file t
 file_of_record setup s t agree sound sid pid handle own r is o i e =
     ap (λ (x : OpenRec). x.file) (some_same (record { id = o.id; file = o.file }) r (sym (recorded setup s t agree sound sid pid handle own o i e) ∙ is))
 
@@ -181,10 +181,10 @@ module _ (setup : Setup) (n : ℕ) (k j : Chains) (t u : Table) (stands : Stands
       let of_other = file_of_record setup z u stands_other.agree fine_other.sound caller.sid info.pid handle pid r (sym handle_open_same ∙ is) in
       let shows : file_view r.file (view t) ≡ file_view r.file (view u) =
       sym (file_tells setup s t stands.agree fine.sets fine.sound r.file) ∙ shown_same s z r.file (file_same setup n k j opens [] files [] own same r.file here) ∙ file_tells setup z u stands_other.agree fine_other.sets fine_other.sound r.file in
-      let of_behind = behind_of_file setup caller handle r.file which looks t fine.sound of in
-      let of_behind_other = behind_of_file setup caller handle r.file which looks u fine_other.sound of_other in
-      let shows_behind : file_view r.file (view behind) ≡ file_view r.file (view behind_other) = view_behind_same setup caller handle r.file which looks t u fine.sound fine_other.sound of of_other shows in
-      goes (view behind) (view behind_other) (rows_behind_same setup caller handle r.file which looks behind behind_other of_behind of_behind_other shows_behind)
+      let of_behind = behind_of_file setup caller (is_of_handle caller.sid handle) r.file which (λ x. looks (view x)) t fine.sound of in
+      let of_behind_other = behind_of_file setup caller (is_of_handle caller.sid handle) r.file which (λ x. looks (view x)) u fine_other.sound of_other in
+      let shows_behind : file_view r.file (view behind) ≡ file_view r.file (view behind_other) = view_behind_same setup caller (is_of_handle caller.sid handle) r.file which (λ x. looks (view x)) t u fine.sound fine_other.sound of of_other shows in
+      goes (view behind) (view behind_other) (rows_behind_same setup caller (is_of_handle caller.sid handle) r.file which (λ x. looks (view x)) behind behind_other of_behind of_behind_other shows_behind)
       (λ row i. let at = in_filter (is_of_handle caller.sid handle) behind.opens row i in
       subst (λ g. file_view g (view behind) ≡ file_view g (view behind_other)) (sym (of_behind row at.0 at.1)) shows_behind)
 
@@ -198,7 +198,7 @@ module _ (setup : Setup) (n by seq number : ℕ) (moment : Moment) (which : Call
     (looks : (caller : Caller) (v : View) → look setup v caller which ≡ names_beside v (v.opens_of_handle caller.sid handle)) (goes : (caller : Caller) → GoesByHandle setup caller handle which) where
   legal_by : IsLegalByFootprint setup n (call_entry by seq number moment which reply)
   legal_by =
-      legal_if setup n by seq number moment which reply (λ k j a caller info declared pid guid same. record {
+      legal_if setup n by seq number moment which reply (λ k j a caller info declared pid guid in_sets same. record {
         worker = λ t stands alive. own_worker_same setup n k j info handle (at k j info declared same);
         answers = λ t u stands stands_other fine fine_other alive alive_other settled settled_other.
             ap (λ (d : Decision). d.reply) (decided_same setup n k j t u stands stands_other fine fine_other caller info pid handle (at k j info declared same) which (looks caller) (goes caller));

@@ -30,7 +30,7 @@ use Rattle.stored_table.specs.Places.{Chains, Place, place, same_place, among}
 use Rattle.stored_table.specs.Decoded.{AllRecords, deciding, records_of}
 use Rattle.record_rows.specs.Rows.{entry_of, hold_of, watch_of, watch_row}
 use Rattle.stored_table.specs.Exact.{unless_both_empty, exact_lock}
-use Rattle.stored_table.specs.Met.{KeyList, Met, places_in, exact_places, all_met, record_at, name_of_entry, names_in, entry_owners, watchers, met_owners, met_watchers, met_by_files}
+use Rattle.stored_table.specs.Met.{KeyList, Met, places_in, exact_places, all_met, record_at, name_of_entry, names_in, entry_owners, watchers, met_by_files}
 use Rattle.stored_table.specs.Shown.{part_of, open_watches, range_watches}
 use Rattle.stored_table.specs.Stands.{AgreeWith, clean_lock}
 use Rattle.stored_table.proofs.Writing.{same_itself}

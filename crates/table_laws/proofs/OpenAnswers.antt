@@ -362,7 +362,7 @@ module _ (setup : Setup) (n by seq number : ℕ) (moment : Moment) (file : ℕ) 
 
   pub open_legal : IsLegalByFootprint setup n (call_entry by seq number moment opening reply)
   open_legal =
-      legal_if setup n by seq number moment opening reply (λ k j a caller info declared pid guid same.
+      legal_if setup n by seq number moment opening reply (λ k j a caller info declared pid guid in_sets same.
       let at = at_met setup n k j (call_entry by seq number moment opening reply) (met_by_open setup n k info number file lease) (by_declared setup n k by number opening info declared) same in
       record {
         worker = λ t stands alive. own_register_same setup n k j (open_key info.pid number ∷ []) [] (file_key setup file ∷ []) (asked_name info lease) (pid_key info.pid ∷ []) at info.pid (inl refl);

@@ -84,7 +84,7 @@ disconnect_reply v caller = refl
 module _ (setup : Setup) (n by seq number : ℕ) (moment : Moment) (reply : Reply) where
   pub disconnect_legal : IsLegalByFootprint setup n (call_entry by seq number moment call.Disconnect reply)
   disconnect_legal =
-      legal_if setup n by seq number moment call.Disconnect reply (λ k j a caller info declared pid guid same. record {
+      legal_if setup n by seq number moment call.Disconnect reply (λ k j a caller info declared pid guid in_sets same. record {
         worker = λ t stands alive. own_register_same setup n k j [] [] [] [] (pid_key info.pid ∷ [])
             (at_met setup n k j (call_entry by seq number moment call.Disconnect reply) (met_by_worker n k info) (by_declared setup n k by number call.Disconnect info declared) same) info.pid (inl refl);
         answers = λ t u stands stands_other fine fine_other alive alive_other settled settled_other. disconnect_reply _ caller ∙ sym (disconnect_reply _ caller);
@@ -95,7 +95,7 @@ module _ (setup : Setup) (n by seq number : ℕ) (moment : Moment) (reply : Repl
 
   pub tidy_legal : IsLegalByFootprint setup n (call_entry by seq number moment call.Tidy reply)
   tidy_legal =
-      legal_if setup n by seq number moment call.Tidy reply (λ k j a caller info declared pid guid same. record {
+      legal_if setup n by seq number moment call.Tidy reply (λ k j a caller info declared pid guid in_sets same. record {
         worker = λ t stands alive. ap (decoded register_rec) (at_met setup n k j (call_entry by seq number moment call.Tidy reply) (tidy_met info) (by_declared setup n k by number call.Tidy info declared) same
             (register_place info.pid) (register_met (tidy_met info) (pid_key info.pid) (inl refl)));
         answers = λ t u stands stands_other fine fine_other alive alive_other settled settled_other. refl;
@@ -117,7 +117,7 @@ module _ (setup : Setup) (n by seq number : ℕ) (moment : Moment) (reply : Repl
 
   pub status_legal : (tables : Tables) → IsLegalByFootprint setup n (call_entry by seq number moment (call.Status tables) reply)
   status_legal tables =
-      legal_if setup n by seq number moment (call.Status tables) reply (λ k j a caller info declared pid guid same. record {
+      legal_if setup n by seq number moment (call.Status tables) reply (λ k j a caller info declared pid guid in_sets same. record {
         worker = λ t stands alive.
             ap (decoded register_rec) (at_met setup n k j (call_entry by seq number moment (call.Status tables) reply) (met_everywhere n k []) (by_declared setup n k by number (call.Status tables) info declared) same
             (register_place info.pid) (register_met (met_everywhere n k []) (pid_key info.pid) (subst (λ p. IsIn (pid_key p) (all_keys n k db.Register)) pid (register_there k t caller.sid.pid caller.sid.session stands alive))));
@@ -165,7 +165,7 @@ module _ (setup : Setup) (n by seq number : ℕ) (moment : Moment) (reply : Repl
   pub recv_legal : IsLegalByFootprint setup n (call_entry by seq number moment call.Recv reply)
   unfolding expired_by
   recv_legal =
-      legal_if setup n by seq number moment call.Recv reply (λ k j a caller info declared pid guid same.
+      legal_if setup n by seq number moment call.Recv reply (λ k j a caller info declared pid guid in_sets same.
       let at = at_met setup n k j (call_entry by seq number moment call.Recv reply) (met_by_worker n k info) (by_declared setup n k by number call.Recv info declared) same in
       record {
         worker = λ t stands alive. own_register_same setup n k j [] [] [] [] (pid_key info.pid ∷ []) at info.pid (inl refl);
@@ -242,7 +242,7 @@ module _ (setup : Setup) (n by seq number : ℕ) (moment : Moment) (key : ℕ) (
   pub glock_legal : (mode : Mode) (wait : Bool) → IsLegalByFootprint setup n (call_entry by seq number moment (call.GLock key mode wait) reply)
   unfolding expired_by
   glock_legal mode wait =
-      legal_if setup n by seq number moment (call.GLock key mode wait) reply (λ k j a caller info declared pid guid same.
+      legal_if setup n by seq number moment (call.GLock key mode wait) reply (λ k j a caller info declared pid guid in_sets same.
       let at = at_met setup n k j (call_entry by seq number moment (call.GLock key mode wait) reply) (met_by_lock n k info key) (by_declared setup n k by number (call.GLock key mode wait) info declared) same in
       record {
         worker = λ t stands alive. own_register_same setup n k j [] (lock_key key ∷ []) [] [] (pid_key info.pid ∷ []) at info.pid (inl refl);
@@ -254,7 +254,7 @@ module _ (setup : Setup) (n by seq number : ℕ) (moment : Moment) (key : ℕ) (
   pub gunlock_legal : IsLegalByFootprint setup n (call_entry by seq number moment (call.GUnlock key) reply)
   unfolding expired_by
   gunlock_legal =
-      legal_if setup n by seq number moment (call.GUnlock key) reply (λ k j a caller info declared pid guid same.
+      legal_if setup n by seq number moment (call.GUnlock key) reply (λ k j a caller info declared pid guid in_sets same.
       let at = at_met setup n k j (call_entry by seq number moment (call.GUnlock key) reply) (met_by_lock n k info key) (by_declared setup n k by number (call.GUnlock key) info declared) same in
       record {
         worker = λ t stands alive. own_register_same setup n k j [] (lock_key key ∷ []) [] [] (pid_key info.pid ∷ []) at info.pid (inl refl);

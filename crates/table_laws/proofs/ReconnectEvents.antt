@@ -19,6 +19,7 @@ use Rattle.sid_core.specs.declared.reply.Reply.{Reply}
 use Rattle.sid_core.specs.declared.reply.Reply.TheVariants.{Granted, ObjectNameNotFound}
 use Rattle.sid_core.specs.declared.setup.Setup.{Setup}
 use Rattle.sid_core.specs.declared.setup.WorkerInfo.{WorkerInfo}
+use Rattle.sid_core.specs.declared.bits.LeaseState.{LeaseState}
 use Rattle.sid_core.specs.Setup.{IsSetup}
 use Rattle.sid_core.specs.Ids.{same_id}
 use Rattle.serial_table.specs.declared.rows.OpenRow.{OpenRow}
@@ -41,7 +42,8 @@ use Rattle.serial_table.specs.Step.{caller_of, declared_at}
 use Rattle.serial_table.specs.History.{start, after, IsLegal, IsLegalCall}
 use Rattle.serial_table.specs.Sound.{AreBelow, have_same_id}
 use Rattle.serial_table.specs.InSets.{IsWorkerRow}
-use Rattle.serial_table.proofs.SameIds.{same_id-eq, eqb-flip}
+use Rattle.serial_table.proofs.SameIds.{same_id-eq, eqb-flip, same_id-refl}
+use Rattle.serial_table.proofs.Settled.{files_settled}
 use Rattle.serial_table.proofs.Alike.{after_all-append}
 use Rattle.serial_table.proofs.Along.{legal_before}
 use Rattle.serial_table.proofs.Callers.{is_caller_of}
@@ -60,7 +62,7 @@ use Rattle.stored_table.specs.Keys.{open_key, pid_key, name_key, file_key}
 use Rattle.stored_table.specs.Places.{Chains, Place, place, among}
 use Rattle.stored_table.specs.Decoded.{AllRecords, records_of}
 use Rattle.stored_table.specs.Met.{KeyList, met_by_call, met_by_reconnect, all_met, named_at, file_of, nothing_met, record_at}
-use Rattle.stored_table.specs.Move.{AddedOpen, added, added_for, move, places_written}
+use Rattle.stored_table.specs.Move.{added, added_for, move, places_written, added_by_caller}
 use Rattle.stored_table.specs.Moved.{moved}
 use Rattle.stored_table.specs.Stands.{HasOpenRecords, StandsFor}
 use Rattle.stored_table.proofs.Telling.{not_declared}
@@ -70,7 +72,7 @@ use Rattle.table_laws.proofs.Exactly.{in_opens}
 use Rattle.table_laws.proofs.Meets.{flat_mapped_in, is_among, files_written, leases_met}
 use Rattle.table_laws.proofs.Touching.{touches, reaches, Along, along, same_waits, same_then, waits_refl, same_refl}
 use Rattle.table_laws.proofs.Deciding.{IsContained, none_new, adds_no_waiter, reply_contained}
-use Rattle.table_laws.proofs.Chains.{IsFine, legal_is_fine, legal_start, old_opens, chains_stand}
+use Rattle.table_laws.proofs.Chains.{IsFine, legal_is_fine, legal_start, old_opens, chains_stand, adds_no_open}
 use Rattle.table_laws.proofs.Calls.{once_in, carried_in, lease_of_file, call_contained, call_opens, open_behind, after_call}
 use Rattle.table_laws.proofs.AddedOpens.{IsNewNumber, new_above, IsTaken, added_opens}
 
@@ -137,7 +139,7 @@ module _ (setup : Setup) (ps : List Place) (s : AllRecords) (here : ℕ → Bool
 pub record TakesOver (caller : Caller) (opens : List OpenRow) (d : Decision) : Type 0 where
   pub row : OpenRow
   pub there : IsIn row opens
-  pub held : Rattle.sid_core.specs.declared.bits.LeaseState.LeaseState
+  pub held : LeaseState
   pub is : d ≡ record (only_reply (Granted (Some held) true)) { changes = c.TakeOver row.file row.id caller.sid caller.number ∷ [] }
 
 abbrev Decided : Caller → List OpenRow → Decision → Type 0
@@ -281,7 +283,7 @@ module _ (setup : Setup) (n : ℕ) (is : IsSetup setup) (before : List Entry) (b
         (subst (λ qs. Contained setup qs s t x) (sym writes) (call_contained setup ps s here t caller (Reconnect worker made key) written met_names settled looked h))
         (λ file. subst (λ y. AllByRecursion (HasOpenRecords (moved setup (places_written setup n k entry) y (view x) s)) ((view x).opens_of file)) (sym none)
         (old_opens setup (places_written setup n k entry) s t x stands.agree fine.sound
-        (call_opens setup ps s here t caller (Reconnect worker made key) written met_names settled looked h (ap (λ (y : Decision). list_all Rattle.table_laws.proofs.Chains.adds_no_open y.changes) d)) file)))
+        (call_opens setup ps s here t caller (Reconnect worker made key) written met_names settled looked h (ap (λ (y : Decision). list_all adds_no_open y.changes) d)) file)))
 
     -- it takes an open over
     module _ (d : TakesOver caller ((view b).opens_of_id id) (decide setup (view b) caller (Reconnect worker made key))) where
@@ -314,7 +316,7 @@ module _ (setup : Setup) (n : ℕ) (is : IsSetup setup) (before : List Entry) (b
           (none_new s (expired_by setup v caller (Reconnect worker made key)) (expired_all adds_no_waiter (λ l. refl) refl setup v caller (Reconnect worker made key)))
           (record {
             others = λ file out. same_refl file t;
-            settled = λ file out. Rattle.serial_table.proofs.Settled.files_settled t settled file;
+            settled = λ file out. files_settled t settled file;
             names = met_names;
             workers = refl;
             ended = refl;
@@ -373,7 +375,7 @@ module _ (setup : Setup) (n : ℕ) (is : IsSetup setup) (before : List Entry) (b
           id_flip p q = λ m. eqb-flip p.pid q.pid m && eqb-flip p.call q.call m
 
           from_now : IsIn y t.opens ⊎ IsNewOwner setup ps s here t b row.file row.id caller.sid caller.number row_here first_along y → y.id ≡ id → record_of y ≡ record { id = row.id; file = row.file }
-          from_now (inl j) e = ap record_of (one_in have_same_id (λ p q. id_flip p.id q.id) t.opens fine.sound.rows.ids_differ y row j row_before (ap (λ m. same_id m row.id) (e ∙ sym row_id) ∙ Rattle.serial_table.proofs.SameIds.same_id-refl row.id))
+          from_now (inl j) e = ap record_of (one_in have_same_id (λ p q. id_flip p.id q.id) t.opens fine.sound.rows.ids_differ y row j row_before (ap (λ m. same_id m row.id) (e ∙ sym row_id) ∙ same_id-refl row.id))
           from_now (inr h) e =
               let p = and_parts (h.row.file == row.file) (same_id h.row.id row.id) h.is in
               ap record_of (sym h.now) ∙ (λ m. let r : OpenRec = record { id = same_id-eq h.row.id row.id p.1 m; file = eqb-true h.row.file row.file p.0 m } in r)
@@ -412,7 +414,7 @@ module _ (setup : Setup) (n : ℕ) (is : IsSetup setup) (before : List Entry) (b
           by_new (inl j) = j
           by_new (inr h) =
               let own : o.id ≡ id = ap (λ (y : OpenRow). y.id) (sym h.now) ∙ same_id-eq h.row.id row.id (and_parts (h.row.file == row.file) (same_id h.row.id row.id) h.is).1 ∙ row_id in
-              absurd (subst (IsIn o) none (passes_in (has_id id) x.opens o i (ap (λ m. same_id m id) own ∙ Rattle.serial_table.proofs.SameIds.same_id-refl id)))
+              absurd (subst (IsIn o) none (passes_in (has_id id) x.opens o i (ap (λ m. same_id m id) own ∙ same_id-refl id)))
 
       opens_after : (os : List OpenRow) → (view x).opens_of_id id ≡ os → (file : ℕ)
           → AllByRecursion (HasOpenRecords (moved setup ps (added_for (open_key info.pid number) os) (view x) s)) ((view x).opens_of file)
@@ -423,8 +425,8 @@ module _ (setup : Setup) (n : ℕ) (is : IsSetup setup) (before : List Entry) (b
       added_is : added setup (view x) entry ≡ added_for (open_key info.pid number) ((view x).opens_of_id id)
       added_is =
           ap (λ r. added setup (view x) (record { by = by; seq = seq; what = Called number moment (Reconnect worker made key) r })) (sym answered ∙ sym reply_behind ∙ ap (λ (y : Decision). y.reply) d.is)
-          ∙ ap (λ o. option_and_then (λ (named : WorkerInfo). option_and_then (Rattle.stored_table.specs.Move.added_by_caller (view x) number (record { pid = named.pid; call = made })) (declared_at setup.workers by)) o) declared
-          ∙ ap (λ o. option_and_then (Rattle.stored_table.specs.Move.added_by_caller (view x) number (record { pid = named.pid; call = made })) o) own
+          ∙ ap (λ o. option_and_then (λ (named : WorkerInfo). option_and_then (added_by_caller (view x) number (record { pid = named.pid; call = made })) (declared_at setup.workers by)) o) declared
+          ∙ ap (λ o. option_and_then (added_by_caller (view x) number (record { pid = named.pid; call = made })) o) own
 
       took_over : StandsFor setup n (move setup n k entry (view (after setup (before ++ entry ∷ [])))) (view (after setup (before ++ entry ∷ [])))
       took_over =

@@ -5,6 +5,7 @@ use Rattle.std.specs.Option.{option_map, option_and_then}
 use Rattle.std.proofs.lemmas.Bool.{both_ways, false_from_ne_true}
 use Rattle.sid_core.specs.declared.ids.LeaseName.{LeaseName}
 use Rattle.sid_core.specs.declared.ids.Sid.{Sid}
+use Rattle.sid_core.specs.declared.ids.Spot.TheVariants.{OpenOf, LockOf}
 use Rattle.sid_core.specs.declared.setup.FileInfo.{FileInfo}
 use Rattle.sid_core.specs.declared.setup.Setup.{Setup}
 use Rattle.sid_core.specs.Ids.{same_sid}
@@ -43,7 +44,7 @@ use Rattle.stored_table.specs.Shown.{part_of}
 use Rattle.table_laws.specs.Standing.{IsUnnamed}
 use Rattle.table_laws.proofs.Contained.{share_place, lock_place, lease_place, register_place}
 use Rattle.table_laws.proofs.Exactly.{refs_back}
-use Rattle.table_laws.proofs.Stepping.{part_first}
+use Rattle.table_laws.proofs.Meets.{part_first}
 
 -- By pid, low gives the last number of a call.
 pub record IsRecorded (low : ℕ → ℕ) (t : Table) (s : AllRecords) : Type 0 where
@@ -120,8 +121,8 @@ module _ (setup : Setup) (ps : List Place) (added : Option AddedOpen) (s : AllRe
     holds_by : (key : ℕ) (b : Bool) → AllByRecursion (λ (x : Hold). same_sid sid x.sid ≡ false) (part_of (λ (r : GLockRec). r.holds) (cond b (exact_lock w key) (s.locks key)))
     holds_by key true =
         subst (AllByRecursion (λ (x : Hold). same_sid sid x.sid ≡ false))
-        (sym (part_first (λ (r : GLockRec). r.holds) (map hold_of (w.holds_of key)) (map watch_of (w.watches_on (Rattle.sid_core.specs.declared.ids.Spot.TheVariants.LockOf key)))
-        (record { holds = map hold_of (w.holds_of key); watchers = map watch_of (w.watches_on (Rattle.sid_core.specs.declared.ids.Spot.TheVariants.LockOf key)) }) refl))
+        (sym (part_first (λ (r : GLockRec). r.holds) (map hold_of (w.holds_of key)) (map watch_of (w.watches_on (LockOf key)))
+        (record { holds = map hold_of (w.holds_of key); watchers = map watch_of (w.watches_on (LockOf key)) }) refl))
         (all_by (λ (x : Hold). same_sid sid x.sid ≡ false) (map hold_of (w.holds_of key)) (λ x i.
         let y = in_map hold_of (w.holds_of key) x i in
         let live = each (λ (z : HoldRow). table.lives w z.owner) u.holds consistent.holders_live y.0 (in_filter (is_hold_of key) u.holds y.0 y.1).0 in
@@ -132,7 +133,7 @@ module _ (setup : Setup) (ps : List Place) (added : Option AddedOpen) (s : AllRe
     in_share file None = tt
     in_share file (Some info) =
         let es = map entry_of (w.opens_of file) in
-        let ws = map watch_of (w.watches_on (Rattle.sid_core.specs.declared.ids.Spot.TheVariants.OpenOf file)) in
+        let ws = map watch_of (w.watches_on (OpenOf file)) in
         subst (AllByRecursion (λ (x : ShareEntry). same_sid sid x.owner ≡ false))
         (sym (part_first (λ (r : ShareRec). r.entries) es ws (record { file = file; path = info.path; name = info.name; pending = w.is_pending file; entries = es; watchers = ws }) refl))
         (all_by (λ (x : ShareEntry). same_sid sid x.owner ≡ false) es (λ x i.

@@ -1,4 +1,4 @@
--- Two tables that show the same of a file: what expires before a call by a handle of the file is the same, and they show the same behind it.
+-- Two tables that show the same of a file: what expires before a call that looks at its leases is the same, and they show the same behind it.
 use Rattle.std.proofs.Common.{◌≡◌, ℕ, Bool, true, false, ◌==◌, ◌&&◌, List, [], ◌∷◌, ◌++◌, map, filter, Option, Some, None, refl, sym, ap, ◌∙◌, subst, inl, inr}
 use Rattle.std.specs.List.{list_all, flat_map}
 use Rattle.std.proofs.lemmas.Bool.{and_parts, and_from, eqb-true, eq-eqb}
@@ -12,7 +12,7 @@ use Rattle.serial_table.specs.declared.rows.LeaseRow.{LeaseRow}
 use Rattle.serial_table.specs.declared.table.Table.{Table}
 use Rattle.serial_table.specs.declared.change.Change.{Change}
 use Rattle.serial_table.specs.declared.decision.Caller.{Caller}
-use Rattle.serial_table.specs.View.{View, view, lives, is_of_file, is_of_handle}
+use Rattle.serial_table.specs.View.{View, view, lives, is_of_file}
 use Rattle.serial_table.specs.File.{FileView, FileOpen, file_view, file_open}
 use Rattle.serial_table.specs.Break.{each_once}
 use Rattle.serial_table.specs.Change.{perform_all}
@@ -37,15 +37,15 @@ rows_back alive (row ∷ rows) = ap (λ rs. row ∷ rs) (rows_back alive rows)
 pub opens_told : (file : ℕ) (v : View) → map (λ (o : FileOpen). o.row) (file_view file v).opens ≡ v.opens_of file
 opens_told file v = rows_back (lives v) (v.opens_of file)
 
--- the opens of the handle are of the file
-abbrev pub AreOfFile : Sid → ℕ → ℕ → Table → Type 0
-AreOfFile sid handle file t = (o : OpenRow) → IsIn o t.opens → is_of_handle sid handle o ≡ true → o.file ≡ file
+-- the opens that pass are of the file
+abbrev pub AreOfFile : (OpenRow → Bool) → ℕ → Table → Type 0
+AreOfFile named file t = (o : OpenRow) → IsIn o t.opens → named o ≡ true → o.file ≡ file
 
 -- so they are among the file's
-handle_rows : (sid : Sid) (handle file : ℕ) (t : Table) → AreOfFile sid handle file t → (view t).opens_of_handle sid handle ≡ filter (is_of_handle sid handle) ((view t).opens_of file)
-handle_rows sid handle file t of =
-    sym (filter-filter (is_of_handle sid handle) (is_of_file file) t.opens
-    ∙ filter_every (is_of_file file) (filter (is_of_handle sid handle) t.opens) (λ o i. let at = in_filter (is_of_handle sid handle) t.opens o i in eq-eqb o.file file (of o at.0 at.1)))
+named_rows : (named : OpenRow → Bool) (file : ℕ) (t : Table) → AreOfFile named file t → filter named t.opens ≡ filter named ((view t).opens_of file)
+named_rows named file t of =
+    sym (filter-filter named (is_of_file file) t.opens
+    ∙ filter_every (is_of_file file) (filter named t.opens) (λ o i. let at = in_filter named t.opens o i in eq-eqb o.file file (of o at.0 at.1)))
 
 all_inside : (alive : Sid → Bool) (file : ℕ) (cs : List Change) → list_all (is_of_break file) cs ≡ true → all_in alive file cs ≡ true
 all_inside alive file [] e = refl
@@ -81,12 +81,12 @@ module _ (setup : Setup) (caller : Caller) (file : ℕ) (call : Call) (t : Table
   pub from_behind : ComesFrom t (perform_all (expired_by setup (view t) caller call) t)
   from_behind = from_breaks file (expired_by setup (view t) caller call) t breaks
 
--- ---- a call by a handle
+-- ---- a call that looks at the leases of the file of such opens
 
-module _ (setup : Setup) (caller : Caller) (handle file : ℕ) (call : Call) (looks : (v : View) → look setup v caller call ≡ names_beside v (v.opens_of_handle caller.sid handle)) where
-  module _ (t : Table) (sound : IsSound t) (of : AreOfFile caller.sid handle file t) where
-    row_file : (row : OpenRow) → IsIn row ((view t).opens_of_handle caller.sid handle) → row.file ≡ file
-    row_file row i = let at = in_filter (is_of_handle caller.sid handle) t.opens row i in of row at.0 at.1
+module _ (setup : Setup) (caller : Caller) (named : OpenRow → Bool) (file : ℕ) (call : Call) (looks : (x : Table) → look setup (view x) caller call ≡ names_beside (view x) (filter named x.opens)) where
+  module _ (t : Table) (sound : IsSound t) (of : AreOfFile named file t) where
+    row_file : (row : OpenRow) → IsIn row (filter named t.opens) → row.file ≡ file
+    row_file row i = let at = in_filter named t.opens row i in of row at.0 at.1
 
     name_there : (rows : List OpenRow) → ((row : OpenRow) → IsIn row rows → row.file ≡ file) → (name : LeaseName) → IsIn name (names_beside (view t) rows) → IsIn name (carried_by ((view t).opens_of file))
     name_there [] own name i = absurd i
@@ -97,7 +97,7 @@ module _ (setup : Setup) (caller : Caller) (handle file : ℕ) (call : Call) (lo
     due_of_file l i =
         let at = (in_filter (is_due caller.moment) (flat_map (λ name. (view t).leases_of name) (look setup (view t) caller call)) l i).0 in
         let name = in_flat_map (λ name. (view t).leases_of name) (look setup (view t) caller call) l at in
-        let carried = name_there ((view t).opens_of_handle caller.sid handle) row_file name.0 (subst (IsIn name.0) (looks (view t)) name.1) in
+        let carried = name_there (filter named t.opens) row_file name.0 (subst (IsIn name.0) (looks t) name.1) in
         let o = carried_in ((view t).opens_of file) name.0 carried in
         let own = in_filter (is_of_file file) t.opens o.0 o.1 in
         lease_of_file t sound o.0 name.0 l own.0 o.2 name.2 ∙ eqb-true o.0.file file own.1
@@ -108,18 +108,18 @@ module _ (setup : Setup) (caller : Caller) (handle file : ℕ) (call : Call) (lo
     pub behind_view : file_view file (view behind) ≡ perform_all_in_file (expired_by setup (view t) caller call) (file_view file (view t))
     behind_view = view_behind setup caller file call t due_of_file
 
-    pub behind_of_file : AreOfFile caller.sid handle file behind
+    pub behind_of_file : AreOfFile named file behind
     behind_of_file o i e = of o ((from_behind setup caller file call t due_of_file).opens o i) e
 
   -- ---- two tables
 
-  module _ (t u : Table) (sound : IsSound t) (sound_other : IsSound u) (of : AreOfFile caller.sid handle file t) (of_other : AreOfFile caller.sid handle file u)
+  module _ (t u : Table) (sound : IsSound t) (sound_other : IsSound u) (of : AreOfFile named file t) (of_other : AreOfFile named file u)
       (same : file_view file (view t) ≡ file_view file (view u)) where
     opens_same : (view t).opens_of file ≡ (view u).opens_of file
     opens_same = sym (opens_told file (view t)) ∙ ap (λ (f : FileView). map (λ (o : FileOpen). o.row) f.opens) same ∙ opens_told file (view u)
 
-    rows_same : (view t).opens_of_handle caller.sid handle ≡ (view u).opens_of_handle caller.sid handle
-    rows_same = handle_rows caller.sid handle file t of ∙ ap (filter (is_of_handle caller.sid handle)) opens_same ∙ sym (handle_rows caller.sid handle file u of_other)
+    rows_same : filter named t.opens ≡ filter named u.opens
+    rows_same = named_rows named file t of ∙ ap (filter named) opens_same ∙ sym (named_rows named file u of_other)
 
     names_same : (rows : List OpenRow) → ((row : OpenRow) → IsIn row rows → row.file ≡ file) → names_beside (view t) rows ≡ names_beside (view u) rows
     names_same [] own = refl
@@ -128,14 +128,14 @@ module _ (setup : Setup) (caller : Caller) (handle file : ℕ) (call : Call) (lo
 
     looks_same : look setup (view t) caller call ≡ look setup (view u) caller call
     looks_same =
-        looks (view t)
-        ∙ names_same ((view t).opens_of_handle caller.sid handle) (row_file t sound of)
+        looks t
+        ∙ names_same (filter named t.opens) (row_file t sound of)
         ∙ ap (names_beside (view u)) rows_same
-        ∙ sym (looks (view u))
+        ∙ sym (looks u)
 
     leases_same : (name : LeaseName) → IsIn name (look setup (view t) caller call) → (view t).leases_of name ≡ (view u).leases_of name
     leases_same name i =
-        let carried = name_there t sound of ((view t).opens_of_handle caller.sid handle) (row_file t sound of) name (subst (IsIn name) (looks (view t)) i) in
+        let carried = name_there t sound of (filter named t.opens) (row_file t sound of) name (subst (IsIn name) (looks t) i) in
         named_leases t sound file name carried
         ∙ ap (λ (f : FileView). f.leases name) same
         ∙ sym (named_leases u sound_other file name (subst (λ os. IsIn name (carried_by os)) opens_same carried))
@@ -152,9 +152,9 @@ module _ (setup : Setup) (caller : Caller) (handle file : ℕ) (call : Call) (lo
         ∙ (λ i. perform_all_in_file (expired_same i) (same i))
         ∙ sym (behind_view u sound_other of_other)
 
-  pub rows_behind_same : (t u : Table) → AreOfFile caller.sid handle file t → AreOfFile caller.sid handle file u → file_view file (view t) ≡ file_view file (view u)
-      → (view t).opens_of_handle caller.sid handle ≡ (view u).opens_of_handle caller.sid handle
+  pub rows_behind_same : (t u : Table) → AreOfFile named file t → AreOfFile named file u → file_view file (view t) ≡ file_view file (view u)
+      → filter named t.opens ≡ filter named u.opens
   rows_behind_same t u of of_other same =
-      handle_rows caller.sid handle file t of
-      ∙ ap (filter (is_of_handle caller.sid handle)) (sym (opens_told file (view t)) ∙ ap (λ (f : FileView). map (λ (o : FileOpen). o.row) f.opens) same ∙ opens_told file (view u))
-      ∙ sym (handle_rows caller.sid handle file u of_other)
+      named_rows named file t of
+      ∙ ap (filter named) (sym (opens_told file (view t)) ∙ ap (λ (f : FileView). map (λ (o : FileOpen). o.row) f.opens) same ∙ opens_told file (view u))
+      ∙ sym (named_rows named file u of_other)

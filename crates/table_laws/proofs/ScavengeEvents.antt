@@ -6,7 +6,7 @@
 use Rattle.std.proofs.Common.{◌≡◌, ℕ, ◌≤◌, Bool, true, false, not, ◌==◌, ◌&&◌, List, [], ◌∷◌, ◌++◌, map, filter, find, Option, Some, None, refl, sym, ap, ◌∙◌, subst, inl, inr}
 use Rattle.std.specs.List.{list_all, AllByRecursion, flat_map}
 use Rattle.std.specs.Option.{option_map, option_map_or, option_and_then}
-use Rattle.std.proofs.lemmas.Bool.{and_parts, and_from, eqb-true, not-true}
+use Rattle.std.proofs.lemmas.Bool.{and_parts, and_from, not-true, both_ways}
 use Rattle.std.proofs.lemmas.List.Folds.{list_all-append, list_all-map}
 use Rattle.sid_core.specs.declared.call.Call.TheVariants.{Scavenge}
 use Rattle.sid_core.specs.declared.entry.Entry.{Entry}
@@ -20,7 +20,7 @@ use Rattle.sid_core.specs.declared.ids.Spot.TheVariants.{OpenOf, RangesOf}
 use Rattle.sid_core.specs.declared.reply.Reply.{Reply}
 use Rattle.sid_core.specs.declared.setup.Setup.{Setup}
 use Rattle.sid_core.specs.Setup.{IsSetup}
-use Rattle.sid_core.specs.Ids.{same_id}
+use Rattle.sid_core.specs.Ids.{same_id, same_name}
 use Rattle.serial_table.specs.declared.rows.OpenRow.{OpenRow}
 use Rattle.serial_table.specs.declared.rows.LeaseRow.{LeaseRow}
 use Rattle.serial_table.specs.declared.rows.HoldRow.{HoldRow}
@@ -279,7 +279,7 @@ module _ (setup : Setup) (n : ℕ) (k : Chains) (t : Table) (stands : StandsFor 
 
   -- a lease whose record isn't there isn't there
   no_lease : (name : LeaseName) → among (lease_place name) ps ≡ false → v.leases_of name ≡ []
-  no_lease name unmet = none_in (v.leases_of name) (λ l i. Rattle.std.proofs.lemmas.Bool.both_ways (among (lease_place name) ps) unmet (lease_there name l i (s.leases name) refl))
+  no_lease name unmet = none_in (v.leases_of name) (λ l i. both_ways (among (lease_place name) ps) unmet (lease_there name l i (s.leases name) refl))
 
   pub scavenged : IsFine setup u → AllFit changes t → Lessened setup ps s t u
   scavenged fine_after fit =
@@ -296,7 +296,7 @@ module _ (setup : Setup) (n : ℕ) (k : Chains) (t : Table) (stands : StandsFor 
             ∙ sym (ap (lease_of (view u) name) (none_in ((view u).leases_of name) (λ l i.
             let at = in_filter (has_name name) u.leases l i in
             let g = h.leases l at.0 in
-            subst (IsIn g.row) none (passes_in (has_name name) t.leases g.row g.there (ap (λ m. Rattle.sid_core.specs.Ids.same_name m name) g.name ∙ at.1)))));
+            subst (IsIn g.row) none (passes_in (has_name name) t.leases g.row g.there (ap (λ m. same_name m name) g.name ∙ at.1)))));
         handles = λ file out name l i e. less_handles t u fine_after.sound h file name l i e;
         holds = λ key unmet. beside.holds key unmet ∙ sym (filter_every (λ h. lives (view u) h.owner) (v.holds_of key) (λ x i.
             sym (lives_same x.owner) ∙ each (λ (y : HoldRow). lives v y.owner) t.holds fine.sound.rows.holders_live x (in_filter (is_hold_of key) t.holds x i).0));

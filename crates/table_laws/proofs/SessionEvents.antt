@@ -3,13 +3,11 @@
 -- It writes what a death writes. The session that begins has no part in any record, so nothing stale comes to count.
 use Rattle.std.proofs.Common.{◌≡◌, ℕ, ◌+◌, ◌≤◌, Bool, true, false, cond, not, ◌==◌, ◌&&◌, List, [], ◌∷◌, ◌++◌, map, find, Option, Some, None, refl, sym, ap, ◌∙◌, subst, inl, inr, ◌⊎◌, arith}
 use Rattle.std.specs.Prelude.{nat_le}
-use Rattle.std.specs.List.{AllByRecursion}
 use Rattle.std.specs.Option.{option_map, option_map_or}
 use Rattle.std.proofs.lemmas.Bool.{and_parts, and_left, cond-false, eqb-true, leb-true, false_from_ne_true}
 use Rattle.sid_core.specs.declared.call.Call.TheVariants.{Disconnect}
 use Rattle.sid_core.specs.declared.entry.Entry.{Entry}
 use Rattle.sid_core.specs.declared.entry.Event.TheVariants.{Called}
-use Rattle.sid_core.specs.declared.entry.Post.{Post}
 use Rattle.sid_core.specs.declared.ids.Moment.{Moment}
 use Rattle.sid_core.specs.declared.ids.Sid.{Sid}
 use Rattle.sid_core.specs.declared.reply.Reply.{Reply}
@@ -22,23 +20,20 @@ use Rattle.serial_table.specs.declared.table.Table.{Table}
 use Rattle.serial_table.specs.declared.change.Change.{Change}
 use Rattle.serial_table.specs.declared.change.Change.TheVariants as c
 use Rattle.serial_table.specs.declared.decision.Caller.{Caller}
-use Rattle.serial_table.specs.View.{View, view, lives, has_pid}
+use Rattle.serial_table.specs.View.{view, lives, has_pid}
 use Rattle.serial_table.specs.File.{file_view, file_open}
-use Rattle.serial_table.specs.Settle.{settle, settle_where, row_stays}
+use Rattle.serial_table.specs.Settle.{settle, settle_where, row_stays, settle_file}
 use Rattle.serial_table.specs.Change.{perform, perform_all, outlives, end_session, begin_session}
-use Rattle.serial_table.specs.Decision.{Outcome, waits_no_more, conclude}
-use Rattle.serial_table.specs.Session.{end_of_session, wakes_behind}
+use Rattle.serial_table.specs.Decision.{Outcome, conclude}
+use Rattle.serial_table.specs.Session.{end_of_session}
 use Rattle.serial_table.specs.Disconnect.{disconnect}
 use Rattle.serial_table.specs.Decide.{outcome}
 use Rattle.serial_table.specs.Expire.{expired_by}
 use Rattle.serial_table.specs.Step.{caller_of, changes_of}
 use Rattle.serial_table.specs.History.{start, after, IsLegal, IsLegalCall}
-use Rattle.serial_table.specs.Sound.{AllFit, IsConsistent, has_had}
-use Rattle.serial_table.proofs.Alike.{after_all-append}
+use Rattle.serial_table.specs.Sound.{IsConsistent, has_had}
 use Rattle.serial_table.proofs.Along.{legal_before}
 use Rattle.serial_table.proofs.Callers.{is_caller_of}
-use Rattle.serial_table.proofs.Concluding.{perform_all-append}
-use Rattle.serial_table.proofs.Entries.{entry_fits}
 use Rattle.serial_table.proofs.Filters.{find-map}
 use Rattle.serial_table.proofs.Living.{lives_among, row_of, none_lives, lives-begin_session}
 use Rattle.serial_table.proofs.Members.{IsIn, found_in, in_filter, each}
@@ -46,13 +41,14 @@ use Rattle.serial_table.proofs.Settled.{files_settled, settled_by_files, settle-
 use Rattle.serial_table.proofs.Views.{pid-begin_session}
 use Rattle.stored_table.specs.Places.{Chains}
 use Rattle.stored_table.specs.Decoded.{AllRecords, records_of}
-use Rattle.stored_table.specs.Met.{met_by_call, met_by_worker, all_met, nothing_met}
+use Rattle.stored_table.specs.Met.{met_by_call, all_met, nothing_met}
+use Rattle.stored_table.specs.Move.{move}
 use Rattle.stored_table.specs.Stands.{StandsFor}
 use Rattle.table_laws.specs.Standing.{IsUnnamed, next_sid, KeepsStandingIfUnnamed}
-use Rattle.table_laws.proofs.Lists.{all_joined, same_test}
-use Rattle.table_laws.proofs.Thinning.{Thins, IsThinned, thinned}
-use Rattle.table_laws.proofs.Ending.{own_register, own_mail, behind_met, wakes_met, drops_leave, sends_add, lives_ended, ended, settled_with, AreWorkers, others_ended, dead, dead_before, ending}
-use Rattle.table_laws.proofs.LessEvents.{fine_before, fine_after, less_stands, drops_thin, sends_thin}
+use Rattle.table_laws.proofs.Lists.{same_test}
+use Rattle.table_laws.proofs.Ending.{lives_ended, ended, AreWorkers, others_ended}
+use Rattle.table_laws.proofs.LessEvents.{fine_before, ended_stands}
+use Rattle.table_laws.proofs.Chains.{IsFine}
 
 -- ---- who lives once the next session has begun
 
@@ -142,7 +138,7 @@ module _ (sid : Sid) (moment : Moment) where
     begun_settled : settle begun ≡ begun
     begun_settled =
         settled_by_files begun (λ file.
-        ap Rattle.serial_table.specs.Settle.settle_file (same_file file) ∙ files_settled settled (settle-settle (ended t sid moment)) file ∙ sym (same_file file))
+        ap settle_file (same_file file) ∙ files_settled settled (settle-settle (ended t sid moment)) file ∙ sym (same_file file))
 
 -- ---- the law
 
@@ -154,86 +150,36 @@ module _ (setup : Setup) (n : ℕ) (is : IsSetup setup) (before : List Entry) (b
   t = after setup before
 
   module _ (legal : IsLegal setup (before ++ entry ∷ [])) (caller : Caller) (from : caller_of setup (view t) by number moment ≡ Some caller) where
-    abbrev v : View
-    v = view t
-
     abbrev sid : Sid
     sid = caller.sid
 
     abbrev at : Moment
     at = caller.moment
 
-    abbrev posts : List Post
-    posts = wakes_behind v sid ++ []
-
-    abbrev changes : List Change
-    changes = (conclude v (end_of_session v sid at (c.Settle ∷ c.NextSession sid at ∷ []))).changes
+    abbrev others : List Change
+    others = c.Settle ∷ (c.NextSession sid at ∷ [])
 
     alive : lives (view t) sid ≡ true
     alive = (is_caller_of setup t by number moment caller from).alive
 
-    fine_t : Rattle.table_laws.proofs.Chains.IsFine setup t
-    fine_t = fine_before setup n is before entry legal
+    fine : IsFine setup t
+    fine = fine_before setup n is before entry legal
 
-    abbrev u : Table
-    u = settled_with t sid at (map (begin_session sid at) (map (end_session sid) t.workers)) posts
-
-    changes_are : changes_of setup v by (Called number moment Disconnect reply) ≡ changes
+    changes_are : changes_of setup (view t) by (Called number moment Disconnect reply) ≡ (conclude (view t) (end_of_session (view t) sid at (c.Settle ∷ (c.NextSession sid at ∷ [])))).changes
     unfolding disconnect expired_by
-    changes_are = ap (λ o. option_map_or (λ (done : Outcome). done.changes) (option_map (λ (caller : Caller). outcome setup v caller Disconnect) o) []) from
+    changes_are = ap (λ o. option_map_or (λ (done : Outcome). done.changes) (option_map (λ (caller : Caller). outcome setup (view t) caller Disconnect) o) []) from
 
-    done_is : perform_all changes t ≡ u
-    unfolding conclude end_of_session settle_where
-    done_is =
-        let drops = map waits_no_more (v.watches_behind sid) in
-        let d = drops ++ c.EndSession sid at ∷ (c.Settle ∷ (c.NextSession sid at ∷ [])) in
-        perform_all-append (d ++ c.Settle ∷ []) (map (λ post. c.Send post) posts) t
-        ∙ sends_add posts (perform_all (d ++ c.Settle ∷ []) t)
-        ∙ ap (λ (x : Table). record x { letters = x.letters ++ posts })
-        (perform_all-append d (c.Settle ∷ []) t
-        ∙ ap (perform c.Settle)
-        (perform_all-append drops (c.EndSession sid at ∷ (c.Settle ∷ (c.NextSession sid at ∷ []))) t
-        ∙ ap (λ x. perform (c.NextSession sid at) (perform c.Settle (perform (c.EndSession sid at) x))) (drops_leave (v.watches_behind sid) t))
-        ∙ begun_settled sid at t fine_t.sound.rows alive)
-
-    after_is : after setup (before ++ entry ∷ []) ≡ u
-    after_is = after_all-append setup (start setup) before entry ∙ ap (λ cs. perform_all cs t) changes_are ∙ done_is
-
-    all_fit : AllFit changes t
-    all_fit = subst (λ cs. AllFit cs t) changes_are (entry_fits setup before [] entry is legal)
-
-    all_thin : (living : Sid → Bool) → living sid ≡ false → AllByRecursion (Thins living t) changes
-    unfolding conclude end_of_session
-    all_thin living none =
-        let drops = map waits_no_more (v.watches_behind sid) in
-        let d = drops ++ c.EndSession sid at ∷ (c.Settle ∷ (c.NextSession sid at ∷ [])) in
-        all_joined (Thins living t) (d ++ c.Settle ∷ []) (map (λ post. c.Send post) posts)
-        (all_joined (Thins living t) d (c.Settle ∷ [])
-        (all_joined (Thins living t) drops (c.EndSession sid at ∷ (c.Settle ∷ (c.NextSession sid at ∷ []))) (drops_thin living t (v.watches_behind sid)) (none, (tt, (tt, tt)))) (tt, tt))
-        (sends_thin living t posts)
+    leaves : perform c.Settle (perform_all (c.Settle ∷ (c.NextSession sid at ∷ [])) (ended t sid at)) ≡ record (perform c.Settle (ended t sid at)) { workers = map (begin_session sid at) (map (end_session sid) t.workers) }
+    unfolding settle_where
+    leaves = begun_settled sid at t fine.sound.rows alive
 
     stands_after : (k : Chains) → StandsFor setup n k (view t) → IsUnnamed (records_of setup n k) (next_sid sid)
-        → StandsFor setup n (Rattle.stored_table.specs.Move.move setup n k entry (view (after setup (before ++ entry ∷ [])))) (view (after setup (before ++ entry ∷ [])))
+        → StandsFor setup n (move setup n k entry (view (after setup (before ++ entry ∷ [])))) (view (after setup (before ++ entry ∷ [])))
     stands_after k stands unnamed =
         let of = is_caller_of setup t by number moment caller from in
-        let s = records_of setup n k in
-        let ps = all_met (met_by_worker n k of.info) in
-        let fine_u = fine_after setup n is before entry legal u after_is in
-        let ws = map (begin_session sid at) (map (end_session sid) t.workers) in
-        let workers : AreWorkers t sid at s ws = workers_begun sid at t fine_t.sound.rows alive s unnamed in
-        let behind = behind_met setup n k t stands.agree of.info sid of.pid alive in
-        let mail = own_mail setup n k t stands.agree of.info sid of.pid alive in
-        let register = own_register setup n k t stands.agree of.info sid of.pid alive in
-        let to = wakes_met ps t sid behind in
-        let living : Sid → Bool = lives (view u) in
-        let thin : IsThinned living t u = subst (IsThinned living t) done_is
-        (thinned living t changes fine_t.sound.rows all_fit (all_thin living (dead setup ps s t fine_t.sound sid at alive mail register behind ws posts workers to))
-        (dead_before setup ps s t fine_t.sound sid at alive mail register behind ws posts workers to)) in
-        less_stands setup n is before entry legal u after_is k stands ps
-        (ap (λ o. all_met (option_map_or (λ info. met_by_call setup n k info number Disconnect) o nothing_met)) of.declared)
-        (λ w. refl)
-        (ending setup ps s t fine_t.sound sid at alive mail register behind ws posts workers to fine_u.sound thin)
-        thin.before
+        ended_stands setup n is before entry legal sid of.info of.pid alive at others (map (begin_session sid at) (map (end_session sid) t.workers)) changes_are leaves k stands
+        (workers_begun sid at t fine.sound.rows alive (records_of setup n k) unnamed) (λ living. (tt, (tt, tt)))
+        (ap (λ o. all_met (option_map_or (λ info. met_by_call setup n k info number Disconnect) o nothing_met)) of.declared) (λ w. refl)
 
   by_caller : (legal : IsLegal setup (before ++ entry ∷ [])) (o : Option Caller) → caller_of setup (view t) by number moment ≡ o
       → option_map (λ done. done.reply) (option_map (λ caller. outcome setup (view t) caller Disconnect) o) ≡ Some reply → KeepsStandingIfUnnamed setup n before by number moment entry

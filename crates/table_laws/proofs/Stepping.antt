@@ -21,7 +21,7 @@ use Rattle.serial_table.specs.declared.rows.WorkerRow.{WorkerRow}
 use Rattle.serial_table.specs.declared.table.Table.{Table}
 use Rattle.serial_table.specs.ByNumber.{declared_at}
 use Rattle.serial_table.specs.View as table
-use Rattle.serial_table.specs.View.{View, view, is_of_file, is_range_of, is_hold_of, names_file, has_pid, carries, leases_at, has_name}
+use Rattle.serial_table.specs.View.{View, view, is_of_file, is_range_of, is_hold_of, names_file, has_pid, carries, leases_at}
 use Rattle.serial_table.specs.Sound.{IsSound, have_same_id, has_its_open, is_opened}
 use Rattle.serial_table.specs.InSets.{IsInSets}
 use Rattle.serial_table.proofs.Filters.{any_filtered}
@@ -46,10 +46,11 @@ use Rattle.stored_table.specs.Shown.{part_of}
 use Rattle.stored_table.specs.Move.{AddedOpen}
 use Rattle.stored_table.specs.Moved.{moved}
 use Rattle.stored_table.specs.Stands.{AgreeWith, HasOpenRecords, clean_share, clean_ranges, clean_lock, clean_register}
-use Rattle.stored_table.proofs.Telling.{none_in, entries_exact, no_opens, no_ranges, entries_are, current_clean, current_exact, lives_alike}
+use Rattle.stored_table.proofs.Telling.{none_in, entries_exact, no_opens, current_clean, current_exact, lives_alike}
 use Rattle.table_laws.specs.Standing.{IsUnnamed}
 use Rattle.table_laws.proofs.Lists.{filter_each, filter_every, filter_twice, filter_mapped, any_in_filter, any_mapped, any_alike}
 use Rattle.table_laws.proofs.Contained.{share_place, ranges_place, lock_place, lease_place, register_place, mail_place, spot_place}
+use Rattle.table_laws.proofs.Meets.{part_first}
 use Rattle.table_laws.proofs.Lessened.{KeepsHandle, LessFile, Lessened}
 use Rattle.table_laws.proofs.Tokens.{counts_at, counts_anywhere}
 use Rattle.table_laws.proofs.Watching.{tokens_stay, waits_there, watches_stay, behind_stay, waits_anywhere, own_tokens, own_tokens_behind}
@@ -85,11 +86,6 @@ thinned mk left f g thin h (x ∷ xs) ys = h (x ∷ xs) ys
 then_thinned : {R : Type 0} (f g thin : R → Option R) (o : Option R) → ((r : R) → o ≡ Some r → f r ≡ option_and_then thin (g r)) → option_and_then f o ≡ option_and_then thin (option_and_then g o)
 then_thinned f g thin None h = refl
 then_thinned f g thin (Some r) h = h r refl
-
-pub part_first : {R A W : Type 0} (f : R → List A) (xs : List A) (ys : List W) (r : R) → f r ≡ xs → part_of f (unless_both_empty xs ys r) ≡ xs
-part_first f [] [] r e = refl
-part_first f [] (y ∷ ys) r e = e
-part_first f (x ∷ xs) ys r e = e
 
 and_turned : (a b : Bool) → (a && b) ≡ (b && a)
 and_turned true true = refl

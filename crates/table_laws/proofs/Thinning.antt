@@ -2,12 +2,13 @@
 use Rattle.std.proofs.Common.{◌≡◌, ℕ, Bool, true, false, cond, not, ◌==◌, ◌&&◌, ◌||◌, List, [], ◌∷◌, map, filter, Option, Some, None, refl, sym, ap, ◌∙◌, subst, inl, inr}
 use Rattle.std.specs.List.{list_any, AllByRecursion}
 use Rattle.std.specs.Option.{option_map_or}
-use Rattle.std.proofs.lemmas.Bool.{and_parts, and_from, or_parts, both_ways, cond_both, cond-true, eqb-true, false_from_ne_true, not_from_false, true_from_ne_false}
-use Rattle.std.proofs.Math.Bool.{and-false}
+use Rattle.std.proofs.lemmas.Bool.{and_parts, and_from, or_parts, both_ways, cond_both, eqb-true, false_from_ne_true, not_from_false, true_from_ne_false, not-false, not-true}
+use Rattle.std.proofs.Math.Bool.{and-false, and-true}
 use Rattle.sid_core.specs.declared.ids.Sid.{Sid}
 use Rattle.sid_core.specs.declared.ids.OpenId.{OpenId}
 use Rattle.sid_core.specs.declared.ids.LeaseName.{LeaseName}
-use Rattle.sid_core.specs.Ids.{same_id, same_sid}
+use Rattle.sid_core.specs.declared.ids.Moment.{Moment}
+use Rattle.sid_core.specs.Ids.{same_id, same_sid, same_name}
 use Rattle.sid_core.specs.Values.{has, is_state, is_part_of}
 use Rattle.serial_table.specs.declared.rows.OpenRow.{OpenRow}
 use Rattle.serial_table.specs.declared.rows.LeaseRow.{LeaseRow}
@@ -24,7 +25,7 @@ use Rattle.serial_table.specs.Change.{perform, perform_all, is_open, is_other_op
 use Rattle.serial_table.specs.Sound.{IsConsistent, IsSound, AllFit, Fits, have_same_id, have_same_name, has_its_open, states_agree, breaks_well}
 use Rattle.serial_table.proofs.SameIds.{same_id-eq, same_name-flip, eqb-flip}
 use Rattle.serial_table.proofs.Names.{same_sid-eq}
-use Rattle.serial_table.proofs.Views.{name-settled_lease, file-settled_lease}
+use Rattle.serial_table.proofs.Views.{name-settled_lease, file-settled_lease, view-perform}
 use Rattle.serial_table.proofs.Filters.{filter-filter, any_filtered}
 use Rattle.serial_table.proofs.Living.{lives-end_session, lives-begin_session}
 use Rattle.serial_table.proofs.Consistent.{consistent-perform}
@@ -48,7 +49,7 @@ kept_by_own : (stays : OpenRow → Bool) (t : Table) → IsConsistent t → (fil
 kept_by_own stays t k file r o i e =
     let test : OpenRow → Bool = λ x. same_id x.id r.id && not (stays x) in
     same_test (not (list_any test ((view t).opens_of file))) (stays o)
-    (λ h. true_from_ne_false (stays o) (λ f. both_ways (list_any test ((view t).opens_of file)) (Rattle.std.proofs.lemmas.Bool.not-true (list_any test ((view t).opens_of file)) h)
+    (λ h. true_from_ne_false (stays o) (λ f. both_ways (list_any test ((view t).opens_of file)) (not-true (list_any test ((view t).opens_of file)) h)
     (any_of test ((view t).opens_of file) o i (and_from (same_id o.id r.id) (not (stays o)) e (not_from_false (stays o) f)))))
     (λ h. not_from_false (list_any test ((view t).opens_of file)) (any_none test ((view t).opens_of file) (λ x j. other h x j (same_id x.id r.id) refl)))
   where
@@ -145,11 +146,11 @@ module _ (alive : Sid → Bool) (file : ℕ) where
 
   -- ---- a session ends
 
-  ended : (t : Table) (sid : Sid) (moment : Rattle.sid_core.specs.declared.ids.Moment.Moment) → IsConsistent t → alive sid ≡ false → ThinFile alive file (view t) (view (perform (c.EndSession sid moment) t))
+  ended : (t : Table) (sid : Sid) (moment : Moment) → IsConsistent t → alive sid ≡ false → ThinFile alive file (view t) (view (perform (c.EndSession sid moment) t))
   ended t sid moment k dead =
       thin_by t (perform (c.EndSession sid moment) t) k (outlives sid) (range_outlives (view t) sid)
       (filter-filter (is_of_file file) (outlives sid) t.opens) (filter-filter (is_range_of file) (range_outlives (view t) sid) t.ranges)
-      (λ o i e. ap alive (same_sid-eq o.owner sid (Rattle.std.proofs.lemmas.Bool.not-false (same_sid o.owner sid) (or_parts (not (same_sid o.owner sid)) (not (o.durable == 0)) e).0)) ∙ dead)
+      (λ o i e. ap alive (same_sid-eq o.owner sid (not-false (same_sid o.owner sid) (or_parts (not (same_sid o.owner sid)) (not (o.durable == 0)) e).0)) ∙ dead)
       (λ r i o j e. ap (λ f. not (list_any (λ x. same_id x.id r.id && not (outlives sid x)) ((view t).opens_of f))) (eqb-true r.file file (in_filter (is_range_of file) t.ranges r i).1) ∙ kept_by_own (outlives sid) t k file r o j e)
       refl
 
@@ -159,7 +160,7 @@ module _ (alive : Sid → Bool) (file : ℕ) where
   dropped t f id k dead =
       thin_by t (perform (c.DropOpen f id) t) k (is_other_open f id) (is_other_range f id)
       (filter-filter (is_of_file file) (is_other_open f id) t.opens) (filter-filter (is_range_of file) (is_other_range f id) t.ranges)
-      (λ o i e. dead o (in_filter (is_of_file file) t.opens o i).0 (Rattle.std.proofs.lemmas.Bool.not-false (is_open f id o) e))
+      (λ o i e. dead o (in_filter (is_of_file file) t.opens o i).0 (not-false (is_open f id o) e))
       (λ r i o j e. λ m. not (((eqb-true r.file file (in_filter (is_range_of file) t.ranges r i).1 ∙ sym (eqb-true o.file file (in_filter (is_of_file file) t.opens o j).1)) m == f) && same_id (sym (same_id-eq o.id r.id e) m) id))
       refl
 
@@ -185,7 +186,7 @@ module _ (alive : Sid → Bool) (file : ℕ) where
       (pending u opens)
     where
       twice : (p q : Bool) → ((p && q) && q) ≡ (p && q)
-      twice p true = Rattle.std.proofs.Math.Bool.and-true (p && true)
+      twice p true = and-true (p && true)
       twice p false = and-false (p && false) ∙ sym (and-false p)
 
       pending : (u : Table) → (view u).opens_of file ≡ filter (stays_there t) ((view t).opens_of file)
@@ -195,7 +196,7 @@ module _ (alive : Sid → Bool) (file : ℕ) where
           let q = keeps_pending (file_view file (view t)) in
           let any : list_any (λ o. true) ((view u).opens_of file) ≡ q =
           ap (list_any (λ (o : OpenRow). true)) opens ∙ any_filtered (stays_there t) ((view t).opens_of file) ∙ sym (any_mapped (keeps_open (file_view file (view t))) (file_open (lives (view t))) ((view t).opens_of file)) in
-          ap (λ b. b && list_any (λ o. true) ((view u).opens_of file)) (ap (λ (w : View). w.is_pending file) (Rattle.serial_table.proofs.Views.view-perform c.Settle t))
+          ap (λ b. b && list_any (λ o. true) ((view u).opens_of file)) (ap (λ (w : View). w.is_pending file) (view-perform c.Settle t))
           ∙ ap (λ b. ((view t).is_pending file && q) && b) any ∙ twice ((view t).is_pending file) q ∙ ap (λ b. (view t).is_pending file && b) (sym any)
 
 -- ---- leases
@@ -300,7 +301,7 @@ module _ (alive : Sid → Bool) (t : Table) where
       set x i =
           let g = h.leases x i in
           cond_both (is_lease file name x) (record x { held = held; breaking = breaking }) x (IsHigher t)
-          (λ e. record { row = g.row; there = g.there; name = g.name; file = g.file; handle = λ hand. low g.row g.there ((λ m. (g.file m == file) && Rattle.sid_core.specs.Ids.same_name (g.name m) name) ∙ e) hand })
+          (λ e. record { row = g.row; there = g.there; name = g.name; file = g.file; handle = λ hand. low g.row g.there ((λ m. (g.file m == file) && same_name (g.name m) name) ∙ e) hand })
           (λ _. g)
   thins (c.NextSession sid moment) u k fit a h =
       same_rows u (perform (c.NextSession sid moment) u) k refl refl refl refl
@@ -397,6 +398,6 @@ module _ (t u : Table) (sound : IsSound u) (h : IsThinned (lives (view u)) t u) 
       let g = h.leases l named.0 in (
         g.row,
         passes_in (λ (x : LeaseRow). x.file == file) ((view t).leases_of name) g.row
-            (passes_in (has_name name) t.leases g.row g.there (ap (λ n. Rattle.sid_core.specs.Ids.same_name n name) g.name ∙ named.1)) (ap (λ f. f == file) g.file ∙ of.1),
+            (passes_in (has_name name) t.leases g.row g.there (ap (λ n. same_name n name) g.name ∙ named.1)) (ap (λ f. f == file) g.file ∙ of.1),
         g.handle e,
       )
