@@ -9,5 +9,6 @@ pub use laws::{
     calls_by_handle_go_by_the_footprint, calls_by_handle_keep_standing,
     calls_of_no_file_go_by_the_footprint, calls_of_no_file_keep_standing,
     calls_that_wait_keep_standing, deaths_go_by_the_footprint, opens_go_by_the_footprint,
-    opens_keep_standing, tidied_chains_keep_standing, what_counts_elsewhere_stays,
+    opens_keep_standing, reconnects_go_by_the_footprint, tidied_chains_keep_standing,
+    what_counts_elsewhere_stays,
 };
