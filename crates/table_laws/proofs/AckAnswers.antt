@@ -1,12 +1,10 @@
 -- `ack` is legal by the chains of its footprint alone.
-use Rattle.std.proofs.Common.{◌≡◌, ℕ, Bool, true, false, cond, ◌==◌, ◌&&◌, List, [], ◌∷◌, ◌++◌, map, filter, Option, Some, None, refl, sym, ap, ◌∙◌, subst, inl, inr}
-use Rattle.std.specs.List.{list_any, flat_map}
+use Rattle.std.proofs.Common.{◌≡◌, ℕ, true, ◌==◌, List, [], ◌∷◌, ◌++◌, map, filter, Option, Some, None, refl, sym, ap, ◌∙◌, subst, inl}
 use Rattle.std.specs.Option.{option_map_or, option_and_then}
-use Rattle.std.proofs.lemmas.Bool.{and_parts, eqb-true, eq-eqb}
+use Rattle.std.proofs.lemmas.Bool.{and_parts, eq-eqb}
 use Rattle.sid_core.specs.declared.bits.LeaseState.{LeaseState}
 use Rattle.sid_core.specs.declared.call.Call.{Call}
 use Rattle.sid_core.specs.declared.call.Call.TheVariants as call
-use Rattle.sid_core.specs.declared.entry.Entry.{Entry}
 use Rattle.sid_core.specs.declared.ids.LeaseName.{LeaseName}
 use Rattle.sid_core.specs.declared.ids.Moment.{Moment}
 use Rattle.sid_core.specs.declared.reply.Reply.{Reply}
@@ -26,21 +24,19 @@ use Rattle.serial_table.specs.Change.{perform_all}
 use Rattle.serial_table.specs.Expire.{look, due, is_due, expires, then_settles, expired_by}
 use Rattle.serial_table.specs.Local.{perform_all_in_file}
 use Rattle.serial_table.specs.Sound.{IsSound, has_open, is_open_under}
-use Rattle.serial_table.specs.Step.{declared_at}
 use Rattle.serial_table.proofs.SameIds.{same_name-eq}
 use Rattle.serial_table.proofs.Members.{IsIn, any_of, each, in_filter, one_of, passes_in}
 use Rattle.chain_map.specs.declared.db.Db.TheVariants as db
 use Rattle.record_codec.specs.declared.share_rec.ShareEntry.{ShareEntry}
-use Rattle.record_codec.specs.declared.lease_rec.LeaseRec.{LeaseRec}
 use Rattle.record_codec.specs.declared.lease_rec.LeaseRef.{LeaseRef}
 use Rattle.record_codec.specs.Counts.{settled_lease}
 use Rattle.record_codec.specs.ShareRec.{share_rec}
 use Rattle.stored_table.specs.Keys.{pid_key, name_key, file_key}
 use Rattle.stored_table.specs.Places.{Chains, Place, among, value_at}
 use Rattle.stored_table.specs.Decoded.{AllRecords, deciding, records_of}
-use Rattle.record_rows.specs.Rows.{entry_of, ref_of, lease_row}
+use Rattle.record_rows.specs.Rows.{entry_of, ref_of}
 use Rattle.stored_table.specs.Exact.{lease_with, opens_under, lease_of, exact_lease}
-use Rattle.stored_table.specs.Met.{KeyList, met, all_keys, record_at, files_with, met_by_name, all_met}
+use Rattle.stored_table.specs.Met.{KeyList, all_keys, record_at, files_with, met_by_name, all_met}
 use Rattle.stored_table.specs.Met as stored
 use Rattle.stored_table.specs.Stands.{AgreeWith, StandsFor}
 use Rattle.stored_table.proofs.Telling.{file_tells}
@@ -54,7 +50,7 @@ use Rattle.table_laws.proofs.Meets.{entry_recorded}
 use Rattle.table_laws.proofs.Showing.{SameLease, settled_same, shown_same}
 use Rattle.table_laws.proofs.Footprints.{own_register_same, asked_lease_same, file_same}
 use Rattle.table_laws.proofs.SameFiles.{view_behind, from_behind}
-use Rattle.table_laws.proofs.Answering.{IsAnsweredAlike, legal_if}
+use Rattle.table_laws.proofs.Answering.{legal_if}
 use Rattle.table_laws.proofs.PlainAnswers.{at_met, by_declared}
 
 -- ---- leases by their exact records

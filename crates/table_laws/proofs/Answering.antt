@@ -1,6 +1,6 @@
 -- A call is legal by its footprint alone, where its caller's register record is met and its reply goes by what is met.
-use Rattle.std.proofs.Common.{◌≡◌, ℕ, Bool, true, false, cond, ◌==◌, ◌&&◌, List, [], ◌∷◌, find, Option, Some, None, refl, sym, ap, ◌∙◌}
-use Rattle.std.specs.Option.{option_map, option_map_or, option_and_then}
+use Rattle.std.proofs.Common.{◌≡◌, ℕ, Bool, true, cond, Option, Some, None, refl, sym, ap, ◌∙◌}
+use Rattle.std.specs.Option.{option_map, option_and_then}
 use Rattle.std.proofs.lemmas.Bool.{eqb-true}
 use Rattle.sid_core.specs.declared.call.Call.{Call}
 use Rattle.sid_core.specs.declared.ids.Moment.{Moment}
@@ -19,7 +19,7 @@ use Rattle.serial_table.specs.Expire.{expired_by}
 use Rattle.serial_table.specs.History.{start, after, IsLegalCall}
 use Rattle.serial_table.specs.Settle.{settle}
 use Rattle.serial_table.specs.Step.{declared_at, caller_if_alive, caller_of}
-use Rattle.serial_table.proofs.Callers.{IsCallerOf, is_caller_of}
+use Rattle.serial_table.proofs.Callers.{is_caller_of}
 use Rattle.serial_table.proofs.Concluding.{start-settled}
 use Rattle.serial_table.proofs.Expiring.{after_all-settled, behind_copy_reply}
 use Rattle.serial_table.proofs.Members.{found_in}
@@ -31,7 +31,7 @@ use Rattle.stored_table.specs.Exact.{register_record}
 use Rattle.stored_table.specs.Met.{met, all_met}
 use Rattle.stored_table.specs.Stands.{AgreeWith, StandsFor, clean_register}
 use Rattle.table_laws.specs.Standing.{call_entry}
-use Rattle.table_laws.specs.ByFootprint.{AgreeOnFootprint, IsLegalByFootprint}
+use Rattle.table_laws.specs.ByFootprint.{IsLegalByFootprint}
 use Rattle.table_laws.proofs.Chains.{IsFine, legal_is_fine}
 use Rattle.table_laws.proofs.Footprints.{met_value}
 

@@ -1,7 +1,7 @@
 -- In two databases that agree on the footprint of an entry, each met record is the same, and the records of each met file show the same.
-use Rattle.std.proofs.Common.{◌≡◌, ℕ, ◌+◌, ◌*◌, ◌<◌, ◌≤◌, Bool, true, false, ◌==◌, List, [], ◌∷◌, ◌++◌, map, filter, Option, Some, None, refl, sym, ap, ◌∙◌, subst, inl, inr, arith}
+use Rattle.std.proofs.Common.{◌≡◌, ℕ, ◌*◌, true, ◌==◌, List, [], map, Option, Some, None, refl, sym, ap, subst, inl, arith}
 use Rattle.std.specs.Prelude.{IfSome}
-use Rattle.std.specs.List.{list_any, AllByRecursion, flat_map}
+use Rattle.std.specs.List.{AllByRecursion}
 use Rattle.std.specs.Option.{option_map_or}
 use Rattle.std.proofs.lemmas.Bool.{eq-eqb}
 use Rattle.sid_core.specs.declared.entry.Entry.{Entry}

@@ -1,55 +1,46 @@
 -- A call by a handle is legal by the chains of its footprint alone.
-use Rattle.std.proofs.Common.{◌≡◌, ℕ, Bool, true, false, cond, ◌==◌, ◌&&◌, List, [], ◌∷◌, map, filter, find, Option, Some, None, refl, sym, ap, ◌∙◌, subst, inl, inr}
-use Rattle.std.specs.Option.{option_map, option_map_or, option_and_then}
+use Rattle.std.proofs.Common.{◌≡◌, ℕ, Bool, true, ◌==◌, List, [], ◌∷◌, map, Option, Some, None, refl, sym, ap, ◌∙◌, subst, inl}
+use Rattle.std.specs.Option.{option_map_or}
 use Rattle.std.proofs.lemmas.Bool.{and_parts, eqb-true}
 use Rattle.sid_core.specs.declared.call.Call.{Call}
 use Rattle.sid_core.specs.declared.call.Call.TheVariants as call
 use Rattle.sid_core.specs.declared.call.Mode.{Mode}
 use Rattle.sid_core.specs.declared.call.Span.{Span}
-use Rattle.sid_core.specs.declared.entry.Entry.{Entry}
 use Rattle.sid_core.specs.declared.ids.Moment.{Moment}
 use Rattle.sid_core.specs.declared.ids.Sid.{Sid}
 use Rattle.sid_core.specs.declared.reply.Reply.{Reply}
 use Rattle.sid_core.specs.declared.setup.Setup.{Setup}
 use Rattle.sid_core.specs.declared.setup.WorkerInfo.{WorkerInfo}
 use Rattle.serial_table.specs.declared.rows.OpenRow.{OpenRow}
-use Rattle.serial_table.specs.declared.rows.WorkerRow.{WorkerRow}
 use Rattle.serial_table.specs.declared.table.Table.{Table}
 use Rattle.serial_table.specs.declared.decision.Caller.{Caller}
 use Rattle.serial_table.specs.declared.decision.Decision.{Decision}
-use Rattle.serial_table.specs.View.{View, view, has_pid, is_of_handle}
-use Rattle.serial_table.specs.File.{FileView, file_view}
+use Rattle.serial_table.specs.View.{View, view, is_of_handle}
+use Rattle.serial_table.specs.File.{file_view}
 use Rattle.serial_table.specs.Change.{perform_all}
 use Rattle.serial_table.specs.Close.{close_first, close}
 use Rattle.serial_table.specs.Delete.{delete_first, delete}
 use Rattle.serial_table.specs.Unlock.{unlock_range, unlock_first, unlock}
 use Rattle.serial_table.specs.ReadWrite.{read_file, read_first, read, write_file, write_first, write}
 use Rattle.serial_table.specs.Lock.{lock_in, lock_first, lock}
-use Rattle.serial_table.specs.Decision.{Outcome}
-use Rattle.serial_table.specs.Decide.{decide, outcome}
+use Rattle.serial_table.specs.Decide.{decide}
 use Rattle.serial_table.specs.Expire.{names_beside, look, due, expires, then_settles, expired_by}
-use Rattle.serial_table.specs.History.{after, IsLegalCall}
 use Rattle.serial_table.specs.Sound.{IsSound}
-use Rattle.serial_table.specs.Step.{declared_at, caller_if_alive, caller_of}
-use Rattle.serial_table.proofs.Callers.{IsCallerOf, is_caller_of}
-use Rattle.serial_table.proofs.Expiring.{behind_copy_reply}
-use Rattle.serial_table.proofs.Members.{IsIn, all_of, found_in, in_filter, some_same}
+use Rattle.serial_table.specs.Step.{declared_at}
+use Rattle.serial_table.proofs.Members.{IsIn, all_of, in_filter, some_same}
 use Rattle.serial_table.proofs.Names.{same_sid-eq}
 use Rattle.chain_map.specs.declared.db.Db.TheVariants as db
 use Rattle.record_codec.specs.declared.open_rec.OpenRec.{OpenRec}
-use Rattle.record_codec.specs.declared.register_rec.RegisterRec.{RegisterRec}
-use Rattle.record_codec.specs.Counts.{Records}
 use Rattle.record_codec.specs.OpenRec.{open_rec}
 use Rattle.stored_table.specs.Keys.{open_key, pid_key, file_key}
 use Rattle.stored_table.specs.Places.{Chains, Place, among, value_at}
-use Rattle.stored_table.specs.Decoded.{AllRecords, deciding, records_of}
-use Rattle.stored_table.specs.Exact.{register_record}
+use Rattle.stored_table.specs.Decoded.{AllRecords, records_of}
 use Rattle.stored_table.specs.Met.{KeyList, met, met_by_call, met_by_handle, all_met, named_at, file_of, nothing_met, record_at}
-use Rattle.stored_table.specs.Stands.{AgreeWith, HasOpenRecords, StandsFor, clean_register}
+use Rattle.stored_table.specs.Stands.{AgreeWith, HasOpenRecords, StandsFor}
 use Rattle.stored_table.proofs.Telling.{none_in, file_tells}
 use Rattle.table_laws.specs.Standing.{call_entry}
 use Rattle.table_laws.specs.ByFootprint.{IsLegalByFootprint}
-use Rattle.table_laws.proofs.Chains.{IsFine, legal_is_fine}
+use Rattle.table_laws.proofs.Chains.{IsFine}
 use Rattle.table_laws.proofs.Exactly.{in_opens}
 use Rattle.table_laws.proofs.Meets.{flat_mapped_in}
 use Rattle.table_laws.proofs.Showing.{shown_same}

@@ -45,3 +45,4 @@ pub mod HandleAnswers
 pub mod PlainAnswers
 pub mod AckAnswers
 pub mod OpenAnswers
+pub mod ReconnectAnswers

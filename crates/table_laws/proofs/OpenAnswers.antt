@@ -1,10 +1,9 @@
 -- `open` is legal by the chains of its footprint alone.
 use Rattle.std.proofs.Common.{◌≡◌, ℕ, Bool, true, false, cond, not, ◌==◌, ◌&&◌, ◌||◌, List, [], ◌∷◌, ◌++◌, map, filter, Option, Some, None, refl, sym, ap, ◌∙◌, subst, inl, inr, ◌⊎◌}
 use Rattle.std.specs.Prelude.{IfSome}
-use Rattle.std.specs.List.{list_any, flat_map, AllByRecursion}
+use Rattle.std.specs.List.{list_any, AllByRecursion}
 use Rattle.std.specs.Option.{option_map, option_map_or, option_and_then}
 use Rattle.sid_core.specs.declared.bits.Access.{Access}
-use Rattle.sid_core.specs.declared.bits.LeaseState.{LeaseState}
 use Rattle.sid_core.specs.declared.bits.Share.{Share}
 use Rattle.sid_core.specs.declared.call.Call.{Call}
 use Rattle.sid_core.specs.declared.call.Call.TheVariants as call
@@ -23,18 +22,16 @@ use Rattle.serial_table.specs.declared.table.Table.{Table}
 use Rattle.serial_table.specs.declared.change.Change.TheVariants as c
 use Rattle.serial_table.specs.declared.decision.Caller.{Caller}
 use Rattle.serial_table.specs.declared.decision.Decision.{Decision}
-use Rattle.serial_table.specs.declared.asked.Asked.{Asked}
-use Rattle.serial_table.specs.Asked.{own_lease, asked_of, is_elsewhere}
+use Rattle.serial_table.specs.Asked.{Asked, own_lease, asked_of, is_elsewhere}
 use Rattle.serial_table.specs.Open.{open_by, open_file}
 use Rattle.serial_table.specs.Decision.{no_longer_waits}
-use Rattle.serial_table.specs.View.{View, view, lives, carries, has_name, is_of_file}
+use Rattle.serial_table.specs.View.{View, view, lives, carries, has_name}
 use Rattle.serial_table.specs.File.{FileView, FileOpen, file_open, file_view, is_under}
 use Rattle.serial_table.specs.Break.{each_once}
 use Rattle.serial_table.specs.Change.{perform_all}
 use Rattle.serial_table.specs.Settle.{settle, settle_by_key, settle_file, settled_lease, broken_to_needed, lacks_handle, keeps_open, lease_settles, lease_stays}
 use Rattle.serial_table.specs.Expire.{carried_by, asked_names, look, due, is_due, expired_by}
 use Rattle.serial_table.specs.Sound.{IsSound}
-use Rattle.serial_table.specs.Step.{declared_at}
 use Rattle.serial_table.proofs.SameIds.{same_name-eq}
 use Rattle.serial_table.proofs.Members.{IsIn, all_by, all_of, in_append, in_filter}
 use Rattle.serial_table.proofs.Filters.{filter-map}
@@ -56,13 +53,13 @@ use Rattle.table_laws.specs.ByFootprint.{IsLegalByFootprint}
 use Rattle.table_laws.proofs.Lists.{all_mapped, any_alike, any_in_filter, any_mapped}
 use Rattle.table_laws.proofs.Chains.{IsFine}
 use Rattle.table_laws.proofs.Calls.{once_in}
-use Rattle.table_laws.proofs.Exactly.{refs_back, single, exact_is, IsUnder}
+use Rattle.table_laws.proofs.Exactly.{refs_back, single, exact_is}
 use Rattle.table_laws.proofs.Fading.{faded, expired, name_faded, settles_to}
 use Rattle.table_laws.proofs.Settling.{is_left}
 use Rattle.table_laws.proofs.Showing.{SameOwner, SameRefs, SameLease, lives_same, settled_same, shown_same}
 use Rattle.table_laws.proofs.Footprints.{own_register_same, asked_lease_same, file_same}
 use Rattle.table_laws.proofs.SameFiles.{opens_told, named_leases, flat_same}
-use Rattle.table_laws.proofs.Answering.{IsAnsweredAlike, legal_if}
+use Rattle.table_laws.proofs.Answering.{legal_if}
 use Rattle.table_laws.proofs.PlainAnswers.{at_met, by_declared}
 use Rattle.table_laws.proofs.AckAnswers.{open_under, leases_same}
 

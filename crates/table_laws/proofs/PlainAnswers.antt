@@ -1,9 +1,9 @@
 -- Calls of no file, deaths and tidied chains are legal by the chains of their footprint alone.
-use Rattle.std.proofs.Common.{◌≡◌, ℕ, Bool, true, false, cond, not, ◌==◌, ◌&&◌, List, [], ◌∷◌, map, filter, find, Option, Some, None, refl, sym, ap, ◌∙◌, subst, inl, inr}
+use Rattle.std.proofs.Common.{◌≡◌, ℕ, Bool, true, false, cond, not, ◌==◌, ◌&&◌, List, [], ◌∷◌, map, filter, Option, Some, None, refl, sym, ap, ◌∙◌, subst, inl, inr}
 use Rattle.std.specs.Prelude.{IsSome}
 use Rattle.std.specs.List.{list_any}
 use Rattle.std.specs.Option.{option_map, option_map_or, option_and_then}
-use Rattle.std.proofs.lemmas.Bool.{and_parts, eqb-true}
+use Rattle.std.proofs.lemmas.Bool.{eqb-true}
 use Rattle.sid_core.specs.declared.call.Call.{Call}
 use Rattle.sid_core.specs.declared.call.Call.TheVariants as call
 use Rattle.sid_core.specs.declared.call.Mode.{Mode}
@@ -17,10 +17,9 @@ use Rattle.sid_core.specs.declared.ids.Moment.{Moment}
 use Rattle.sid_core.specs.declared.ids.Sid.{Sid}
 use Rattle.sid_core.specs.declared.ids.Spot.TheVariants.{LockOf}
 use Rattle.sid_core.specs.declared.reply.Reply.{Reply}
-use Rattle.sid_core.specs.declared.reply.Reply.TheVariants.{Message, NoMessage, LockNotGranted, PossibleDeadlock}
+use Rattle.sid_core.specs.declared.reply.Reply.TheVariants.{Message, NoMessage, PossibleDeadlock}
 use Rattle.sid_core.specs.declared.setup.Setup.{Setup}
 use Rattle.sid_core.specs.declared.setup.WorkerInfo.{WorkerInfo}
-use Rattle.sid_core.specs.Setup.{IsSetup}
 use Rattle.sid_core.specs.Ids.{same_sid}
 use Rattle.serial_table.specs.declared.rows.HoldRow.{HoldRow}
 use Rattle.serial_table.specs.declared.rows.Watch.{Watch}
@@ -29,42 +28,38 @@ use Rattle.serial_table.specs.declared.table.Table.{Table}
 use Rattle.serial_table.specs.declared.decision.Caller.{Caller}
 use Rattle.serial_table.specs.declared.decision.Decision.{Decision}
 use Rattle.serial_table.specs.View.{View, view, lives, has_pid, is_hold_of}
-use Rattle.serial_table.specs.Decision.{Outcome, only_reply, conclude}
-use Rattle.serial_table.specs.Decide.{decide, outcome}
+use Rattle.serial_table.specs.Decision.{only_reply, conclude}
 use Rattle.serial_table.specs.Disconnect.{disconnect}
 use Rattle.serial_table.specs.Expire.{expired_by}
-use Rattle.serial_table.specs.GlobalLock.{own_holds, other_holds, other_upgrades, keeps_out, wait_for_lock, raise, change_hold, gain_hold, glock_by, glock, gunlock_by, gunlock}
+use Rattle.serial_table.specs.GlobalLock.{own_holds, other_holds, keeps_out, wait_for_lock, raise, change_hold, gain_hold, glock_by, glock, gunlock_by, gunlock}
 use Rattle.serial_table.specs.History.{after, IsLegalDeath}
 use Rattle.serial_table.specs.Recv.{recv_first, recv}
 use Rattle.serial_table.specs.Session.{end_of_session}
 use Rattle.serial_table.specs.Step.{declared_at, caller_of}
-use Rattle.serial_table.proofs.Callers.{IsCallerOf, is_caller_of}
+use Rattle.serial_table.proofs.Callers.{is_caller_of}
 use Rattle.serial_table.proofs.Members.{IsIn, found_in, in_filter}
 use Rattle.record_codec.specs.declared.glock_rec.GLockRec.{GLockRec}
 use Rattle.record_codec.specs.declared.glock_rec.Hold.{Hold}
 use Rattle.record_codec.specs.declared.mail_rec.MailRec.{MailRec}
-use Rattle.record_codec.specs.declared.mail_rec.Token.{Token}
-use Rattle.record_codec.specs.declared.watch.WatchRec.{WatchRec}
 use Rattle.chain_map.specs.declared.db.Db.TheVariants as db
 use Rattle.record_codec.specs.declared.register_rec.RegisterRec.{RegisterRec}
 use Rattle.record_codec.specs.RegisterRec.{register_rec}
 use Rattle.stored_table.specs.Keys.{lock_key, pid_key}
-use Rattle.stored_table.specs.Places.{Chains, Place, HasChains, among, value_at}
-use Rattle.stored_table.specs.Decoded.{AllRecords, deciding, decoded, records_of}
+use Rattle.stored_table.specs.Places.{Chains, Place, among, value_at}
+use Rattle.stored_table.specs.Decoded.{AllRecords, decoded, records_of}
 use Rattle.record_rows.specs.Rows.{hold_of, watch_of, token_of, watch_row}
-use Rattle.stored_table.specs.Exact.{unless_both_empty, exact_lock, mail_record, mail_of_session, mail_if_alive, exact_mail}
-use Rattle.stored_table.specs.Met.{KeyList, Met, met, met_by_call, met_by_files, met_by_lock, met_by_worker, met_everywhere, all_keys, all_met, nothing_met}
+use Rattle.stored_table.specs.Exact.{exact_lock, mail_of_session, mail_if_alive}
+use Rattle.stored_table.specs.Met.{Met, met, met_by_call, met_by_lock, met_by_worker, met_everywhere, all_keys, all_met, nothing_met}
 use Rattle.stored_table.specs.Shown.{part_of}
 use Rattle.stored_table.specs.Stands.{AgreeWith, StandsFor}
 use Rattle.table_laws.specs.Standing.{call_entry}
-use Rattle.table_laws.specs.ByFootprint.{AgreeOnFootprint, IsLegalByFootprint}
+use Rattle.table_laws.specs.ByFootprint.{IsLegalByFootprint}
 use Rattle.table_laws.proofs.Contained.{register_place}
-use Rattle.table_laws.proofs.Chains.{IsFine}
 use Rattle.table_laws.proofs.Meets.{part_first, part_second, register_met}
 use Rattle.table_laws.proofs.Showing.{SameLockRecord, clean_lock_same}
 use Rattle.table_laws.proofs.Footprints.{met_value, own_register_same, own_mail_same, lock_same}
 use Rattle.table_laws.proofs.KeysThere.{recorded_key}
-use Rattle.table_laws.proofs.Answering.{told, told_row, told_worker, caller_same, IsAnsweredAlike, legal_if}
+use Rattle.table_laws.proofs.Answering.{told, told_row, told_worker, caller_same, legal_if}
 
 -- what is met is told by the caller
 pub at_met : (setup : Setup) (n : ℕ) (k j : Chains) (e : Entry) (m : Met) → met setup n k e ≡ m → ((p : Place) → among p (all_met (met setup n k e)) ≡ true → value_at n k p ≡ value_at n j p)

@@ -156,6 +156,12 @@ pub fn opens_go_by_the_footprint()
         → IsLegalByFootprint setup n (call_entry by seq number moment (call.OpenFile file access share lease durable overwrite delete) reply) }
 {}
 
+/// What is legal goes by the footprint alone: the same of `reconnect`.
+pub fn reconnects_go_by_the_footprint()
+    ensures { (setup : Setup) (n by seq number : ℕ) (moment : Moment) (worker made key : ℕ) (reply : Reply)
+        → IsLegalByFootprint setup n (call_entry by seq number moment (call.Reconnect worker made key) reply) }
+{}
+
 /// What is legal goes by the footprint alone: the same of `glock`, `gunlock`, `recv`, `disconnect`, `tidy` and `status`.
 pub fn calls_of_no_file_go_by_the_footprint()
     ensures glock { (setup : Setup) (n by seq number : ℕ) (moment : Moment) (key : ℕ) (mode : Mode) (wait : Bool) (reply : Reply)
