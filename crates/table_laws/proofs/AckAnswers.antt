@@ -34,7 +34,7 @@ use Rattle.record_codec.specs.ShareRec.{share_rec}
 use Rattle.stored_table.specs.Keys.{pid_key, name_key, file_key}
 use Rattle.stored_table.specs.Places.{Chains, Place, among, value_at}
 use Rattle.stored_table.specs.Decoded.{AllRecords, deciding, records_of}
-use Rattle.record_rows.specs.Rows.{entry_of, ref_of}
+use Rattle.record_rows.specs.Rows.{entry_of, ref_of, lease_row}
 use Rattle.stored_table.specs.Exact.{lease_with, opens_under, lease_of, exact_lease}
 use Rattle.stored_table.specs.Met.{KeyList, all_keys, record_at, files_with, met_by_name, all_met}
 use Rattle.stored_table.specs.Met as stored

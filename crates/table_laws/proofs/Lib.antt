@@ -27,6 +27,7 @@ pub mod Breaking
 pub mod WriteEvents
 pub mod WaitEvents
 pub mod AckEvents
+pub mod Asking
 pub mod OpenEvents
 pub mod Ending
 pub mod LessEvents

@@ -22,7 +22,8 @@ use Rattle.serial_table.specs.declared.table.Table.{Table}
 use Rattle.serial_table.specs.declared.change.Change.TheVariants as c
 use Rattle.serial_table.specs.declared.decision.Caller.{Caller}
 use Rattle.serial_table.specs.declared.decision.Decision.{Decision}
-use Rattle.serial_table.specs.Asked.{Asked, own_lease, asked_of, is_elsewhere}
+use Rattle.table_laws.proofs.Asking.{Asked}
+use Rattle.serial_table.specs.Asked.{own_lease, asked_of, is_elsewhere}
 use Rattle.serial_table.specs.Open.{open_by, open_file}
 use Rattle.serial_table.specs.Decision.{no_longer_waits}
 use Rattle.serial_table.specs.View.{View, view, lives, carries, has_name}

@@ -42,7 +42,8 @@ use Rattle.serial_table.specs.Settle.{settle}
 use Rattle.serial_table.specs.Change.{perform_all}
 use Rattle.serial_table.specs.Local.{perform_all_in_file}
 use Rattle.serial_table.specs.Break.{Breaks, no_break, all_but_handle, all_but_write, none_of_them, both, first_of, names_of, each_once}
-use Rattle.serial_table.specs.Asked.{Asked, own_lease, asked_of, is_stat, deletes_without_right, is_elsewhere, in_conflict, refuses}
+use Rattle.table_laws.proofs.Asking.{Asked}
+use Rattle.serial_table.specs.Asked.{own_lease, asked_of, is_stat, deletes_without_right, is_elsewhere, in_conflict, refuses}
 use Rattle.serial_table.specs.Grant.{grant_lease, is_durable, new_open, grant_plain, grant_under, grant_by, grant}
 use Rattle.serial_table.specs.Open.{handle_breaks, other_breaks, wait_for_open, wait_or_grant, go_on, open_by, open_file}
 use Rattle.serial_table.specs.Decision.{Outcome, only_reply, spots_of, no_longer_waits, conclude}
