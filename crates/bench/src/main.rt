@@ -1,9 +1,10 @@
 //! Works on chains, records and tables over and over, so that a profiler can tell what a call costs. Each line of the input
 //! has an operation, a size and how often it is done, and for a chain the order in which its keys came: `find 1250 100
-//! random`, `pack 10 100` or `close 500 100`. Its answer is a sum that depends on what was done.
+//! random`, `pack 10 100`, `close 500 100` or `living 10 100`. Its answer is a sum that depends on what was done.
 #![tactic(auto)]
 
 mod chains;
+mod parts;
 mod records;
 mod tables;
 
@@ -32,7 +33,10 @@ fn answer(alloc: Global, line: &str) -> Result<u64> {
     if word == "close" {
         return tables::count(alloc, size, times);
     }
-    let work = ChainWork::named(word).context("no such operation")?;
-    let order = Order::named(words.next().unwrap_or("")).context("no such order")?;
+    let how = words.next().unwrap_or("");
+    let Some(work) = ChainWork::named(word) else {
+        return parts::count(alloc, word, size, times, how == "bare");
+    };
+    let order = Order::named(how).context("no such order")?;
     chains::count(alloc, work, order, size, times)
 }

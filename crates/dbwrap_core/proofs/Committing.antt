@@ -20,23 +20,18 @@ use Rattle.dbwrap_core.specs.declared.pass.Stage.TheVariants as stage
 use Rattle.dbwrap_core.specs.Shows.{plan_of, held_by}
 use Rattle.dbwrap_core.proofs.Showing.{shown_living}
 use Rattle.dbwrap_core.proofs.Keeping as keep
+use Rattle.turn_types.specs.Shown.{Shown}
+use Rattle.turn_types.specs.declared.replay.Replay.{Ghosts}
+use Rattle.dbwrap_core.specs.declared.plain.PlainCells.{PlainCells}
+use Rattle.dbwrap_core.specs.Plain.{shown_at}
+use Rattle.dbwrap_core.proofs.Here.{Here, living, showing}
 use Rattle.dbwrap_core.specs.Sound.{Sound, PassOk, due_of, plans_of}
 use Rattle.dbwrap_core.proofs.Lists.{set_same, set_other, within, take_prefix, is_there}
 use Rattle.dbwrap_core.proofs.Keeping.{Place}
 use Rattle.dbwrap_core.proofs.Planning as plans
 use Rattle.dbwrap_core.proofs.Holding as holding
+use Rattle.dbwrap_core.proofs.Counting.{counted_more, pass_else, pass_more}
 use Rattle.turn_types.proofs.Runs as runs
-
-pub pass_more : (n : ℕ) (js : List Entry) (e : Entry) → e.by ≡ n → of_pass n (js ++ e ∷ []) ≡ of_pass n js ++ e ∷ []
-pass_more n [] e by = ap (λ t. cond t (e ∷ []) []) (eq-eqb e.by n by)
-pass_more n (x ∷ js) e by = ap (λ (t : List Entry). cond (eqb x.by n) (x ∷ t) t) (pass_more n js e by) ∙ both (eqb x.by n) where
-  both : (t : Bool) → cond t (x ∷ (of_pass n js ++ e ∷ [])) (of_pass n js ++ e ∷ []) ≡ cond t (x ∷ of_pass n js) (of_pass n js) ++ e ∷ []
-  both true = refl
-  both false = refl
-
-pub pass_else : (n : ℕ) (js : List Entry) (e : Entry) → (e.by ≡ n → ⊥) → of_pass n (js ++ e ∷ []) ≡ of_pass n js
-pass_else n [] e by = ap (λ t. cond t (e ∷ []) []) (ne_eqb e.by n by)
-pass_else n (x ∷ js) e by = ap (λ (t : List Entry). cond (eqb x.by n) (x ∷ t) t) (pass_else n js e by)
 
 -- what is planned is due once it is committed
 made_due : (s : Stage) (xs : Numbered) → is_made (plan_of s xs) ≡ true → (planned (plan_of s xs) ≡ xs) × (due (plan_of stage.Committed xs) ≡ planned (plan_of s xs))
@@ -86,15 +81,23 @@ module _ {R : Type 0} (first : R → Chains → Type 0) (step : R → Chains →
   agree : Agree (names rule k e) k l
   agree c h = let y = fits.has_all c h in held_k c y.0 y.1 ∙ sym (held_l c y.0 y.1)
 
-  moved : (names rule l e ≡ names rule k e) × (legal rule k e → legal rule l e) × Agree (names rule k e) (step rule k e) (step rule l e)
+  moved : (names rule l e ≡ names rule k e) × (legal rule k e → legal rule l e)
   moved = law.local k l e reach_k reach_l as_long agree
 
   may : legal rule l e
   may = moved.1 fits.may
 
+  after_seen : follows rule (of_pass e.by ks1) e
+  after_seen = subst (λ (z : ℕ). follows rule (of_pass z ks1) e) (sym fits.by_pass) fits.after_own
+
+  after_all : follows rule (of_pass e.by js) e
+  after_all = subst (λ (t : List Entry). follows rule t e) (own_part.own ∙ ap (λ (z : ℕ). of_pass z js) (sym fits.by_pass)) fits.after_own
+
+  made : Agree (names rule k e) (step rule k e) (step rule l e)
+  made = law.made k l e (k0, ks1, ok.began, seen_legal, after_seen, refl) (k0, js, ok.began, ok.is_legal, after_all, refl) as_long agree fits.may
+
   pub still_legal : Legal (step rule) (legal rule) (follows rule) k0 (js ++ e ∷ [])
-  still_legal = runs.legal_snoc (step rule) (legal rule) (follows rule) k0 js e ok.is_legal may
-      (subst (λ (t : List Entry). follows rule t e) (own_part.own ∙ ap (λ (z : ℕ). of_pass z js) (sym fits.by_pass)) fits.after_own)
+  still_legal = runs.legal_snoc (step rule) (legal rule) (follows rule) k0 js e ok.is_legal may after_all
 
   after : fold (step rule) k0 (js ++ e ∷ []) ≡ step rule l e
   after = fold_push (step rule) k0 js e
@@ -113,7 +116,7 @@ module _ {R : Type 0} (first : R → Chains → Type 0) (step : R → Chains →
     found = holding.found_here (n + 1) c ks hs y at_c is
 
     go : (t : Bool) → has c (names rule k e) ≡ t → get_elem? (step rule l e) c ≡ some (or_else (look c (plans_of p)) y)
-    go true h = sym (moved.2 c h) ∙ fits.will c y found
+    go true h = sym (made c h) ∙ fits.will c y found
     go false h = (law.frame l e reach_l may).1 c (ap (λ (z : List ℕ). has c z) moved.0 ∙ h) ∙ held_l c y found ∙ sym (held_k c y found) ∙ sym ((law.frame k e reach_k fits.may).1 c h) ∙ fits.will c y found
 
   abbrev q : PlainPass
@@ -178,6 +181,7 @@ module _ {R : Type 0} (first : R → Chains → Type 0) (step : R → Chains →
   commits = record {
     began = ok.began;
     is_legal = still_legal;
+    counted = counted_more js e ok.counted (fits.next ∙ ap (λ (t : List Entry). length t + 1) (own_part.own ∙ ap (λ m. of_pass m js) (sym fits.by_pass)));
     as_many = ok.as_many;
     each_held = ok.each_held;
     few_chains = ok.few_chains;
@@ -210,3 +214,22 @@ module _ {R : Type 0} (first : R → Chains → Type 0) (step : R → Chains →
   }) where
     plans_same' : p.new.items ≡ planned (plan_of p.stage p.new.items)
     plans_same' = sym (made_due p.stage p.new.items fits.made).0
+
+-- what a commit leaves
+pub record Committed {R : Type 0} {g : Ghosts R} (cells : PlainCells R g) (n : ℕ) (me p' : PlainPass) (e : Entry) (js : List Entry) : Type 0 where
+  pub sound : Sound g.first g.step g.legal g.follows g.buries cells.rule cells.first.value.items cells.chains.items cells.words.items js (slice_set cells.passes.items n p')
+  pub gains : of_pass n (take p'.seen js) ≡ of_pass n (take me.seen cells.journal.items) ++ e ∷ []
+  pub others : (m : ℕ) (q : PlainPass) → Place cells.passes.items m q → take q.seen js ≡ take q.seen cells.journal.items
+  pub stands : (place : ℕ) → place ≡ length cells.journal.items → RoseBy 1 me.done p'.done → Stands g.step g.legal g.follows g.buries (showing cells n me) (living cells n cells.chains.items cells.words.items js p') e place
+
+pub committed : {R : Type 0} {g : Ghosts R} (cells : PlainCells R g) (n : ℕ) (me : PlainPass) → Here cells n me → (p' : PlainPass) (e : Entry) (js : List Entry) → Lawful (g.first cells.rule) (g.step cells.rule) (g.legal cells.rule) (g.names cells.rule) (g.follows cells.rule)
+    → Fits g.step g.legal g.follows g.buries g.names (shown_at cells n) e → p'.seen ≡ length cells.journal.items + 1 → p' ≡ record me { seen = p'.seen; commits = e.seq; stage = stage.Committed; looked = p'.looked; done = p'.done } → js ≡ cells.journal.items ++ e ∷ []
+    → Committed cells n me p' e js
+committed {R} {g} cells n me h p' e js law fits ends same more =
+    let fits' = subst (λ (v : Shown R). Fits g.step g.legal g.follows g.buries g.names v e) h.old fits in
+    subst (λ (t : List Entry). Committed cells n me p' e t) (sym more) (record {
+      sound = commits g.first g.step g.legal g.follows g.buries g.names cells.rule cells.first.value.items law cells.chains.items cells.words.items cells.journal.items cells.passes.items n me p' e cells.sound h.at h.lives fits' ends same;
+      gains = gains g.first g.step g.legal g.follows g.buries g.names cells.rule cells.first.value.items law cells.chains.items cells.words.items cells.journal.items cells.passes.items n me p' e cells.sound h.at h.lives fits' ends same;
+      others = λ m q at. take-append-le q.seen cells.journal.items (e ∷ []) (cells.sound.each m q at).seen;
+      stands = stands g.first g.step g.legal g.follows g.buries g.names cells.rule cells.first.value.items law cells.chains.items cells.words.items cells.journal.items cells.passes.items n me p' e cells.sound h.at h.lives fits' ends same;
+    })

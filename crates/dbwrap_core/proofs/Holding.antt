@@ -1,5 +1,6 @@
 -- The chains that a word names.
-use Rattle.std.proofs.Common.{◌≡◌, ℕ, zero, suc, ◌+◌, ◌<◌, ◌≤◌, Bool, true, false, cond, eqb, eq-eqb, ne_eqb, List, [], ◌∷◌, ◌++◌, length, slice_set, slice_index_or, sym, refl, ap, ◌∙◌, subst, arith}
+use Rattle.std.proofs.Common.{◌≡◌, ℕ, zero, suc, ◌+◌, ◌<◌, ◌≤◌, Bool, true, false, cond, eqb, eq-eqb, ne_eqb, List, [], ◌∷◌, ◌++◌, length, slice_set, slice_index_or, sym, refl, ap, ◌∙◌, subst, arith, None}
+use Rattle.std.specs.List.{position}
 use mathlib.Core.Option.{none, some, some-ne-none, some-injective}
 use lib.ListN.{get_elem?}
 use Rattle.std.proofs.lemmas.Bool.{eqb-true}
@@ -7,6 +8,7 @@ use Rattle.chain_map.specs.Pairs.{Pairs}
 use Rattle.turn_types.specs.Journal.{Chains}
 use Rattle.turn_types.specs.Shown.{Numbered, look, hold, AllBelow}
 use Rattle.dbwrap_core.specs.Shows.{held_by}
+use Rattle.dbwrap_core.proofs.Lists.{none_at}
 
 -- those above
 none_below : (w i j : ℕ) (ks : Chains) (hs : List ℕ) → j ≤ i → AllBelow j (held_by w i ks hs) → held_by w i ks hs ≡ []
@@ -128,6 +130,14 @@ held_same w i zero (k ∷ ks) (h ∷ hs) y a = let off = ne_eqb h w (λ q. a (ap
     ap (λ t. cond t ((i, y) ∷ held_by w (i + 1) ks hs) (held_by w (i + 1) ks hs)) off ∙ sym (ap (λ t. cond t ((i, k) ∷ held_by w (i + 1) ks hs) (held_by w (i + 1) ks hs)) off)
 held_same w i (suc c) (k ∷ ks) (h ∷ hs) y a = ap (λ t. cond (eqb h w) ((i, k) ∷ t) t) (held_same w (i + 1) c ks hs y a)
 
+-- what is found stands at a place
+pub found_there : {A : Type 0} (c : ℕ) (xs : List (ℕ × A)) (y : A) → look c xs ≡ some y → (i : ℕ) × (get_elem? xs i ≡ some (c, y))
+found_there c [] y e = absurd (some-ne-none y (sym e))
+found_there {A} c (x ∷ xs) y e = go (λ q. found_there c xs y q) (eqb x.0 c) refl e where
+  go : (look c xs ≡ some y → (i : ℕ) × (get_elem? xs i ≡ some (c, y))) → (t : Bool) → eqb x.0 c ≡ t → cond t (some x.1) (look c xs) ≡ some y → (i : ℕ) × (get_elem? (x ∷ xs) i ≡ some (c, y))
+  go more true a q = (zero, λ j. some (eqb-true x.0 c a j, some-injective x.1 y q j))
+  go more false a q = let r = more q in (suc r.0, r.1)
+
 pub look_last : (c : ℕ) (xs : Numbered) (y : Pairs) → look c xs ≡ none → look c (xs ++ (c, y) ∷ []) ≡ some y
 look_last c [] y e = ap (λ t. cond t (some y) none) (eq-eqb c c refl)
 look_last c (x ∷ xs) y e = go (look_last c xs y) (eqb x.0 c) e where
@@ -168,3 +178,10 @@ some_held w c ks hs y e f = go (held_by w 0 ks hs) refl where
   go : (xs : Numbered) → held_by w 0 ks hs ≡ xs → (h : ℕ × Pairs) × (rest : Numbered) × (held_by w 0 ks hs ≡ h ∷ rest)
   go [] q = absurd (some-ne-none y (sym (ap (λ (t : Numbered). look c t) (sym q) ∙ found_here w c ks hs y e f)))
   go (h ∷ rest) q = (h, rest, q)
+
+-- a chain of pass n is given back, and the others hold what they held
+pub held_freed : (n c : ℕ) (ks : Chains) (hs : List ℕ) → get_elem? hs c ≡ some (n + 1) → (m : ℕ) → (m ≡ n → ⊥) → held_by (m + 1) 0 ks (slice_set hs c 0) ≡ held_by (m + 1) 0 ks hs
+held_freed n c ks hs word m out = held_aside (m + 1) 0 c 0 ks hs (λ z. let is = some-injective (n + 1) (m + 1) (sym word ∙ z) in out (omega arith)) (λ z. omega arith)
+
+pub none_with : (w : ℕ) (ks : Chains) (hs : List ℕ) → position (λ h. eqb h w) hs ≡ None → held_by w 0 ks hs ≡ []
+none_with w ks hs e = none_held w 0 ks hs (λ k l. none_at (λ h. eqb h w) hs k 0 e l)

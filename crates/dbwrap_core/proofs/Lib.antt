@@ -1,8 +1,12 @@
 mod Lists
 mod Holding
 mod Showing
-mod Keeping
+mod Here
 mod Planning
+mod Keeping
+mod Storing
+mod Taking
+mod Counting
 mod Committing
 mod Dying
 mod Ending

@@ -13,6 +13,8 @@ use native.Mathlib.Decide.{dec_le}
 use mathlib.Core.Option.{some, some-ne-none, some-injective}
 use Rattle.turn_types.specs.Calls.{RoseBy}
 use lib.ListN.{get_elem?}
+pub use Rattle.turn_types.proofs.Rows.{set_self}
+pub use Rattle.turn_types.proofs.Runs.{is_within as within}
 
 pub set_same : {A : Type 0} (xs : List A) (n : ℕ) (x : A) → n < length xs → get_elem? (slice_set xs n x) n ≡ some x
 set_same [] n x l = absurd (omega arith)
@@ -36,11 +38,6 @@ place_is [] n x d e = absurd (some-ne-none x (sym e))
 place_is (y ∷ xs) zero x d e = some-injective y x e
 place_is (y ∷ xs) (suc n) x d e = place_is xs n x d e
 
-pub within : {A : Type 0} (xs : List A) (n : ℕ) (x : A) → get_elem? xs n ≡ some x → n < length xs
-within [] n x e = absurd (some-ne-none x (sym e))
-within (y ∷ xs) zero x e = omega arith
-within (y ∷ xs) (suc n) x e = let h = within xs n x e in omega arith
-
 pub there : {A : Type 0} (xs : List A) (n : ℕ) → n < length xs → (x : A) × (get_elem? xs n ≡ some x)
 there [] n l = absurd (omega arith)
 there (y ∷ xs) zero l = (y, refl)
@@ -54,11 +51,6 @@ is_false [] h n = refl
 is_false (true ∷ xs) zero n = absurd (n refl)
 is_false (false ∷ xs) zero n = refl
 is_false (x ∷ xs) (suc h) n = is_false xs h n
-
-pub set_self : {A : Type 0} (xs : List A) (n : ℕ) (x : A) → get_elem? xs n ≡ some x → slice_set xs n x ≡ xs
-set_self [] n x e = absurd (some-ne-none x (sym e))
-set_self (y ∷ xs) zero x e = ap (λ z. z ∷ xs) (sym (some-injective y x e))
-set_self (y ∷ xs) (suc n) x e = ap (λ zs. y ∷ zs) (set_self xs n x e)
 
 pub take_prefix : {A : Type 0} (s : ℕ) (xs : List A) → (zs : List A) × (xs ≡ take s xs ++ zs)
 take_prefix zero xs = (xs, refl)
@@ -105,3 +97,10 @@ rose_by n a r l e = ((λ h. omega arith), omega arith)
 
 pub nowhere : (w : ℕ) (words : List ℕ) → position (λ h. eqb h w) words ≡ None → (x : ℕ) → get_elem? words x ≡ some w → ⊥
 nowhere w words e x at = let f = none_at (λ h. eqb h w) words x 0 e (within words x w at) in let t = eq-eqb (slice_index_or words x 0) w (place_is words x w 0 at) in let z : true ≡ false = sym t ∙ f in cc
+
+-- what is learnt is known
+pub learnt : (xs : List Bool) (n : ℕ) → n < length xs → slice_index_or (slice_set xs n true) n false ≡ true
+learnt xs n l = place_is (slice_set xs n true) n true false (set_same xs n true l)
+
+pub searched : (w : ℕ) (hs slice : List ℕ) (r : std.Option ℕ) → slice ≡ hs → r ≡ position (λ h. eqb h w) slice → position (λ h. eqb h w) hs ≡ r
+searched w hs slice r is e = ap (λ (l : List ℕ). position (λ h. eqb h w) l) (sym is) ∙ sym e

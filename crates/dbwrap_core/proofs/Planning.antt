@@ -7,7 +7,7 @@ use Rattle.dbwrap_core.specs.declared.pass.Stage.{Stage}
 use Rattle.dbwrap_core.specs.declared.pass.Stage.TheVariants as stage
 use Rattle.dbwrap_core.specs.Shows.{plan_of}
 use Rattle.turn_types.specs.Shown.{Numbered, look, due, planned, is_committed, is_nothing, is_made, is_stored, RisesFrom, Within, left_over}
-use Rattle.dbwrap_core.proofs.Keeping.{found_there}
+use Rattle.dbwrap_core.proofs.Holding.{found_there}
 use Rattle.turn_types.proofs.Runs.{at_longer, at_last}
 use Rattle.dbwrap_core.proofs.Lists.{within}
 use Rattle.turn_types.specs.Shown.{Plan}
@@ -69,6 +69,11 @@ due_nil stage.Nothing xs e = refl
 due_nil stage.Made xs e = refl
 due_nil stage.Committed xs e = e
 
+pub planned_nil : (s : Stage) (xs : Numbered) → xs ≡ [] → planned (plan_of s xs) ≡ []
+planned_nil stage.Nothing xs e = refl
+planned_nil stage.Made xs e = e
+planned_nil stage.Committed xs e = e
+
 pub nil_of : {A : Type 0} (xs : List A) → length xs ≡ 0 → xs ≡ []
 nil_of [] e = refl
 nil_of (x ∷ xs) e = absurd (omega arith)
@@ -91,9 +96,6 @@ pub left_none : (s : Stage) → is_stored (plan_of s []) ≡ true → left_over 
 left_none stage.Nothing e = refl
 left_none stage.Made e = never e
 left_none stage.Committed e = refl
-
-pub left_some : (s : Stage) (h : ℕ × Pairs) (hs : Numbered) → left_over (h ∷ hs) (plan_of s []) ≡ plan_of s []
-left_some s h hs = refl
 
 pub after_stage : (s s' : Stage) (xs hs : Numbered) (last : Bool) → is_stored (plan_of s xs) ≡ true → xs ≡ [] → (last ≡ true → s' ≡ stage.Nothing) → (last ≡ false → s' ≡ s) → (last ≡ true → hs ≡ []) → (last ≡ false → (h : ℕ × Pairs) × (rest : Numbered) × (hs ≡ h ∷ rest))
     → plan_of s' xs ≡ left_over hs (plan_of s xs)

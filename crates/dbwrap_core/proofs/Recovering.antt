@@ -22,9 +22,10 @@ use Rattle.dbwrap_core.specs.Plain.{Still, beside_of, shown_at}
 use Rattle.dbwrap_core.specs.Sound.{StillDue, due_of, due_at, plans_of}
 use Rattle.dbwrap_core.specs.Redone.{Redone, IsDeadPass, IsUnmade, Counted, due_in, due_or_none, made_or_not, left, count_of}
 use Rattle.dbwrap_core.proofs.Lists.{there, within, is_there}
+use Rattle.dbwrap_core.proofs.Here.{somewhere}
 use Rattle.dbwrap_core.proofs.Holding as holding
 use Rattle.dbwrap_core.proofs.Showing as show
-use Rattle.dbwrap_core.proofs.Redoing.{few}
+use Rattle.dbwrap_core.proofs.Redoing.{few, few_words, joined, no_words}
 
 has_died : (o : Option Death) → (o ≡ None → ⊥) → (d : Death) × (o ≡ Some d)
 has_died None n = absurd (n refl)
@@ -33,11 +34,11 @@ has_died (Some d) n = (d, refl)
 -- a pass that is known as dead is there, and is dead
 pub dead_pass : {R : Type 0} {g : Ghosts R} (p : PlainCells R g) (n d : ℕ) → n < length p.passes.items → (shown_at p n).alive ≡ true → knows_dead d (shown_at p n) ≡ true → IsDeadPass p d
 dead_pass {R} p n d l lives known =
-    let me = there p.passes.items n l in let old = show.living_is p n me.0 me.1 lives in
-    let knows = is_there me.0.dead.items d (ap (λ (v : Shown R). knows_dead d v) (sym old) ∙ known) in
-    let inside = within me.0.dead.items d true knows in let many = (p.sound.each n me.0 me.1).deaths in
+    let me = somewhere p n l lives in
+    let knows = is_there me.0.dead.items d (ap (λ (v : Shown R). knows_dead d v) (sym me.1.old) ∙ known) in
+    let inside = within me.0.dead.items d true knows in let many = (p.sound.each n me.0 me.1.at).deaths in
     let a = there p.passes.items d (omega arith) in
-    let t = has_died a.0.death (λ e. p.sound.dead_known n d me.0 a.0 me.1 a.1 knows e) in (a.0, t.0, a.1, t.1)
+    let t = has_died a.0.death (λ e. p.sound.dead_known n d me.0 a.0 me.1.at a.1 knows e) in (a.0, t.0, a.1, t.1)
 
 unmade_plans : (s : Stage) (xs : Numbered) → is_made (plan_of s xs) ≡ false → due (plan_of s xs) ≡ planned (plan_of s xs)
 unmade_plans stage.Nothing xs m = refl
@@ -126,3 +127,23 @@ frees {R} {g} p q r d stored freed v w Freed dead re chains words journal t = re
 
   first_is : (u : Shown R) → get_elem? (beside_of p).passes d ≡ some u → u.first ≡ p.first.value.items
   first_is u at = ap (λ (v : Shown R). v.first) (back u at).2
+
+-- so many chains are stored at most
+pub few_stored : {R : Type 0} {g : Ghosts R} (q r : PlainCells R g) (d stored : ℕ) → IsDeadPass q d → IsUnmade q d → stored + left r d ≡ left q d → stored ≤ 512
+few_stored q r d stored dead unmade counted = let few = few_left q d dead unmade in let most = few_words q (d + 1) in omega arith
+
+-- a whole recovery, but for the count of its steps
+pub record Steps {R : Type 0} {g : Ghosts R} (p s : PlainCells R g) (d stored freed : ℕ) : Type 0 where
+  pub all : Redone p s d
+  pub few : (stored ≤ 512) × (freed ≤ 512)
+  pub once : ((c : ℕ) → get_elem? s.words.items c ≡ some (d + 1) → ⊥) → stored ≤ freed
+
+pub steps : {R : Type 0} {g : Ghosts R} (p q r s : PlainCells R g) (d stored freed : ℕ) → Redone p q d → IsUnmade q d → Redone q r d → r.words.items ≡ q.words.items → stored + left r d ≡ left q d → Redone r s d
+    → freed + count_of (d + 1) s.words.items ≡ count_of (d + 1) r.words.items → Steps p s d stored freed
+steps p q r s d stored freed one unmade two words counted three given =
+    let few = few_left q d one.dead unmade in let most = few_words q (d + 1) in
+    let same : count_of (d + 1) r.words.items ≡ count_of (d + 1) q.words.items = ap (λ (l : List ℕ). count_of (d + 1) l) words in record {
+      all = joined p r s d (joined p q r d one two) three;
+      few = (few_stored q r d stored one.dead unmade counted, omega arith);
+      once = λ unnamed. let none = no_words (d + 1) s.words.items unnamed in omega arith;
+    }

@@ -1,5 +1,5 @@
 -- Steps of a recovery, one by one.
-use Rattle.std.proofs.Common.{◌≡◌, ℕ, zero, suc, ◌+◌, ◌<◌, ◌≤◌, Bool, true, false, cond, eqb, eq-eqb, ne_eqb, List, [], ◌∷◌, ◌++◌, length, slice_set, sym, refl, ap, ◌∙◌, subst, arith, length-set, Some}
+use Rattle.std.proofs.Common.{◌≡◌, ℕ, zero, suc, ◌+◌, ◌<◌, ◌≤◌, Bool, true, false, cond, eqb, eq-eqb, ne_eqb, List, [], ◌∷◌, ◌++◌, length, slice_set, slice_index_or, sym, refl, ap, ◌∙◌, subst, arith, length-set, Some}
 use Rattle.std.proofs.Common as std
 use mathlib.Core.Option.{some, none, some-ne-none, some-injective}
 use lib.ListN.{get_elem?}
@@ -17,9 +17,14 @@ use Rattle.dbwrap_core.specs.Sound.{due_of}
 use Rattle.dbwrap_core.specs.Redone.{Redone, IsDeadPass, IsUnmade, IsStored, left, made_or_not, due_in, due_or_none, count_of}
 use mathlib.Core.Logic.{dite}
 use native.Mathlib.Decide.{ℕ_discrete}
-use Rattle.dbwrap_core.proofs.Lists.{set_same, set_other, within, there}
+use Rattle.dbwrap_core.proofs.Lists.{at_place, set_same, set_other, within, there}
 use Rattle.dbwrap_core.proofs.Holding.{look_last, look_aside}
+use Rattle.dbwrap_core.proofs.Planning.{due_nil}
 use Rattle.dbwrap_core.proofs.Dying as dying
+
+-- what is due of a chain that stays
+pub same_there : (ks : Chains) (due : Numbered) (c : ℕ) (y z : Pairs) → get_elem? ks c ≡ some y → get_elem? ks c ≡ some z → or_else (look c due) z ≡ or_else (look c due) y
+same_there ks due c y z e f = ap (λ (u : Pairs). or_else (look c due) u) (some-injective z y (sym f ∙ e))
 
 pub redoing : {R : Type 0} {g : Ghosts R} (p q : PlainCells R g) (d : ℕ) (a a' : PlainPass) (death : Death)
     → q.rule ≡ p.rule → q.first.value.items ≡ p.first.value.items → q.journal.items ≡ p.journal.items → length q.chains.items ≡ length p.chains.items → length q.words.items ≡ length p.words.items
@@ -45,7 +50,7 @@ redoing {R} p q d a a' death rule first journal chains words passes at died same
   here = ap (λ (t : List PlainPass). get_elem? t d) passes ∙ set_same p.passes.items d a' (within p.passes.items d a at)
 
 pub no_step : {R : Type 0} {g : Ghosts R} (p : PlainCells R g) (d : ℕ) → IsDeadPass p d → Redone p p d
-no_step p d dead = record { rule = refl; first = refl; journal = refl; chains = refl; words = refl; many = refl; passes = refl; dead = dead; fewer = λ c e. e; same = λ c y z g h. ap (λ (u : Pairs). or_else (look c (due_in p d)) u) (some-injective z y (sym h ∙ g)) }
+no_step p d dead = record { rule = refl; first = refl; journal = refl; chains = refl; words = refl; many = refl; passes = refl; dead = dead; fewer = λ c e. e; same = λ c y z g h. same_there p.chains.items (due_in p d) c y z g h }
 
 -- one step after another
 pub joined : {R : Type 0} {g : Ghosts R} (p q r : PlainCells R g) (d : ℕ) → Redone p q d → Redone q r d → Redone p r d
@@ -79,12 +84,15 @@ pub no_words : (w : ℕ) (words : List ℕ) → ((c : ℕ) → get_elem? words c
 no_words w [] n = refl
 no_words w (x ∷ words) n = ap (λ t. cond t (count_of w words + 1) (count_of w words)) (ne_eqb x w (λ e. n zero (ap some e))) ∙ no_words w words (λ c e. n (suc c) e)
 
-pub at_most : (w : ℕ) (words : List ℕ) → count_of w words ≤ length words
+at_most : (w : ℕ) (words : List ℕ) → count_of w words ≤ length words
 at_most w [] = omega arith
 at_most w (x ∷ words) = go (eqb x w) (at_most w words) where
   go : (t : Bool) → count_of w words ≤ length words → cond t (count_of w words + 1) (count_of w words) ≤ suc (length words)
   go true l = omega arith
   go false l = omega arith
+
+pub few_words : {R : Type 0} {g : Ghosts R} (p : PlainCells R g) (w : ℕ) → count_of w p.words.items ≤ 512
+few_words p w = let most = at_most w p.words.items in let many = p.sound.each_held in let few_chains = p.sound.few_chains in omega arith
 
 -- rising numbers of words that are w
 pub few : (w i : ℕ) (words : List ℕ) (xs : Numbered) → ((a b : ℕ) (x y : ℕ × Pairs) → get_elem? xs a ≡ some x → get_elem? xs b ≡ some y → a < b → x.0 < y.0)
@@ -148,3 +156,16 @@ Giving p d stop stored freed c q = Redone p q d × IsStored q d × (freed + coun
 
 pub left_is : {R : Type 0} {g : Ghosts R} (p : PlainCells R g) (d : ℕ) (dead : IsDeadPass p d) → IsUnmade p d → left p d ≡ length dead.0.new.items
 left_is p d dead unmade = ap (λ (l : Numbered). length l) (ap due_or_none dead.2 ∙ due_if_left dead.0.stage dead.0.new.items (ap made_or_not (sym dead.2) ∙ unmade) (p.sound.each d dead.0 dead.2).idle)
+
+-- the dead pass where it is found by its place
+pub found : {R : Type 0} {g : Ghosts R} (p : PlainCells R g) (d : ℕ) (dead : IsDeadPass p d) (a : PlainPass) → a ≡ slice_index_or p.passes.items d a → (get_elem? p.passes.items d ≡ some a) × (a.death ≡ Some dead.1)
+found p d dead a is = let at = at_place p.passes.items d a (within p.passes.items d dead.0 dead.2) is in (at, ap (λ (z : PlainPass). z.death) (some-injective a dead.0 (sym at ∙ dead.2)) ∙ dead.3)
+
+pub unmade_here : {R : Type 0} {g : Ghosts R} (p : PlainCells R g) (d : ℕ) (a : PlainPass) → get_elem? p.passes.items d ≡ some a → IsUnmade p d → is_made (plan_of a.stage a.new.items) ≡ false
+unmade_here p d a at unmade = ap made_or_not (sym at) ∙ unmade
+
+pub none_left : {R : Type 0} {g : Ghosts R} (p : PlainCells R g) (d : ℕ) (a : PlainPass) → get_elem? p.passes.items d ≡ some a → a.new.items ≡ [] → 0 < left p d → ⊥
+none_left p d a at empty some_left = let none = ap (λ (l : Numbered). length l) (ap due_or_none at ∙ due_nil a.stage a.new.items empty) in omega arith
+
+pub left_here : {R : Type 0} {g : Ghosts R} (p : PlainCells R g) (d : ℕ) (dead : IsDeadPass p d) → IsUnmade p d → (a : PlainPass) → a ≡ slice_index_or p.passes.items d a → left p d ≡ length a.new.items
+left_here p d dead unmade a is = left_is p d dead unmade ∙ ap (λ (z : PlainPass). length z.new.items) (some-injective dead.0 a (sym dead.2 ∙ (found p d dead a is).0))

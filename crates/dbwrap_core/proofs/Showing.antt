@@ -1,16 +1,15 @@
 -- What the passes show, pass by pass.
-use Rattle.std.proofs.Common.{◌≡◌, ℕ, zero, suc, ◌+◌, List, [], ◌∷◌, ◌++◌, slice_set, slice_index_or, take, Option, Some, None, true, length, sym, refl, ap, ◌∙◌, subst, arith, zero-add, append-nil}
+use Rattle.std.proofs.Common.{◌≡◌, ℕ, zero, suc, ◌+◌, List, [], ◌∷◌, slice_set, slice_index_or, take, Option, Some, None, true, length, sym, refl, ap, ◌∙◌, subst, arith, zero-add}
 use mathlib.Core.Option.{some, some-ne-none, some-injective}
 use lib.ListN.{get_elem?}
 use Rattle.sid_core.specs.declared.entry.Entry.{Entry}
 use Rattle.turn_types.specs.Journal.{Chains, of_pass}
 use Rattle.turn_types.specs.Shown.{Shown}
 use Rattle.dbwrap_core.specs.declared.pass.PlainPass.{PlainPass}
-use Rattle.turn_types.specs.Beside.{Leaves}
 use Rattle.turn_types.specs.declared.replay.Replay.{Ghosts}
 use Rattle.dbwrap_core.specs.declared.plain.PlainCells.{PlainCells}
 use Rattle.dbwrap_core.specs.Plain.{shown_at}
-use Rattle.dbwrap_core.proofs.Lists.{set_same, set_self, within}
+use Rattle.dbwrap_core.proofs.Lists.{set_same, within}
 use Rattle.dbwrap_core.specs.declared.pass.Death.{Death}
 use Rattle.dbwrap_core.specs.Shows.{shown_of, all_shown, blank, held_by, held_at, plan_at, plan_of, lives}
 
@@ -18,7 +17,7 @@ use Rattle.dbwrap_core.specs.Shows.{shown_of, all_shown, blank, held_by, held_at
 abbrev pub shown_living : {R : Type 0} → R → Chains → Chains → List ℕ → List Entry → ℕ → PlainPass → Shown R
 shown_living rule first chains words journal n p = record (shown_of rule first chains words journal n p) { alive = true; held = held_by (n + 1) 0 chains words; plan = plan_of p.stage p.new.items }
 
-alive_none : (d : Option Death) → lives d ≡ true → d ≡ None
+pub alive_none : (d : Option Death) → lives d ≡ true → d ≡ None
 alive_none None e = refl
 alive_none (Some d) e = absurd cc
 
@@ -101,21 +100,6 @@ module _ {R : Type 0} (r : R) (f : Chains) where
     pub of_living : (Rel : Shown R → Shown R → Type 0) → get_elem? ps n ≡ some p → p.death ≡ None → p'.death ≡ None → Rel (shown_living r f ks hs js n p) (shown_living r f ks' hs' js' n p')
         → Rel (slice_index_or (all_shown r f ks hs js 0 ps) n b) (slice_index_or (all_shown r f ks' hs' js' 0 (slice_set ps n p')) n b)
     of_living Rel at e e' k = of_shown Rel at (subst (λ (t : Shown R × Shown R). Rel t.0 t.1) (λ j. (sym (living ks hs js n p e) j, sym (living ks' hs' js' n p' e') j)) k)
-
-    -- the others show the same, and the journal gains what own gains
-    pub leaves : (gained : List Entry) → get_elem? ps n ≡ some p → js' ≡ js ++ gained → of_pass n (take p'.seen js') ≡ of_pass n (take p.seen js) ++ gained
-        → ((m : ℕ) (q : PlainPass) → get_elem? ps m ≡ some q → (m ≡ n → ⊥) → SameFor ks hs js ks' hs' js' m q)
-        → Leaves (slice_index_or (all_shown r f ks hs js 0 ps) n b) (slice_index_or (all_shown r f ks' hs' js' 0 (slice_set ps n p')) n b)
-        (record { journal = js; chains = ks; words = hs; passes = all_shown r f ks hs js 0 ps }) (record { journal = js'; chains = ks'; words = hs'; passes = all_shown r f ks' hs' js' 0 (slice_set ps n p') })
-    leaves gained at journal own others = of_shown (λ v w. Leaves v w (record { journal = js; chains = ks; words = hs; passes = all_shown r f ks hs js 0 ps }) (record { journal = js'; chains = ks'; words = hs'; passes = all_shown r f ks' hs' js' 0 (slice_set ps n p') })) at (record { gained = gained; own = own; journal = journal; passes = all_set ks ks' hs hs' js js' n ps p' others })
-
-  -- where nothing changes
-  pub leaves_alone : (ks : Chains) (hs : List ℕ) (js : List Entry) (n : ℕ) (ps : List PlainPass) (p : PlainPass) (b : Shown R) → get_elem? ps n ≡ some p
-      → Leaves (slice_index_or (all_shown r f ks hs js 0 ps) n b) (slice_index_or (all_shown r f ks hs js 0 ps) n b)
-      (record { journal = js; chains = ks; words = hs; passes = all_shown r f ks hs js 0 ps }) (record { journal = js; chains = ks; words = hs; passes = all_shown r f ks hs js 0 ps })
-  leaves_alone ks hs js n ps p b at = subst (λ (qs : List PlainPass). Leaves (slice_index_or (all_shown r f ks hs js 0 ps) n b) (slice_index_or (all_shown r f ks hs js 0 qs) n b)
-      (record { journal = js; chains = ks; words = hs; passes = all_shown r f ks hs js 0 ps }) (record { journal = js; chains = ks; words = hs; passes = all_shown r f ks hs js 0 qs })) (set_self ps n p at)
-      (leaves ks ks hs hs js js n ps p p b [] at (sym (append-nil js)) (sym (append-nil _)) (λ m q e d. (refl, refl)))
 
 -- of whole cells
 module _ {R : Type 0} {g : Ghosts R} (cells : PlainCells R g) (n : ℕ) (me : PlainPass) (at : get_elem? cells.passes.items n ≡ some me) where

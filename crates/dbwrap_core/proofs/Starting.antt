@@ -70,6 +70,7 @@ pub begins : {R : Type 0} (first : R → Chains → Type 0) (step : R → Chains
 begins first step legal follows buries rule k0 hs ps began few some_passes free all = record {
   began = began;
   is_legal = λ i e at. absurd (some-ne-none e (sym at));
+  counted = λ n. tt;
   as_many = refl;
   each_held = ap (λ (t : List ℕ). length t) free ∙ length-replicate (length k0) 0;
   few_chains = few;

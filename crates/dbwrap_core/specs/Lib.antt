@@ -1,4 +1,5 @@
 pub mod Shows
+pub mod Counted
 pub mod Sound
 pub mod Plain
 pub mod Fresh

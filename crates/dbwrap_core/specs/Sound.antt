@@ -10,6 +10,7 @@ use Rattle.turn_types.specs.Journal.{Chains, Legal, Single, of_pass}
 use Rattle.turn_types.specs.Shown.{Numbered, look, or_else, due, planned, is_nothing}
 use Rattle.dbwrap_core.specs.declared.pass.PlainPass.{PlainPass}
 use Rattle.dbwrap_core.specs.declared.pass.Death.{Death}
+use Rattle.dbwrap_core.specs.Counted.{IsCounted, counted_single}
 use Rattle.dbwrap_core.specs.Shows.{plan_of}
 
 abbrev pub due_of : PlainPass → Numbered
@@ -55,6 +56,7 @@ module _ {R : Type 0} (first : R → Chains → Type 0) (step : R → Chains →
   pub record Sound (k0 chains : Chains) (words : List ℕ) (journal : List Entry) (passes : List PlainPass) : Type 0 where
     pub began : first rule k0
     pub is_legal : Legal (step rule) (legal rule) (follows rule) k0 journal
+    pub counted : IsCounted journal
     pub as_many : length chains ≡ length k0
     pub each_held : length words ≡ length chains
     pub few_chains : length chains ≤ 512
@@ -66,4 +68,4 @@ module _ {R : Type 0} (first : R → Chains → Type 0) (step : R → Chains →
     pub each : (m : ℕ) (p : PlainPass) → get_elem? passes m ≡ some p → PassOk (buries rule) (fold (step rule) k0 journal) chains words journal (length passes) m p
 
   pub sound_single : Single (first rule) (legal rule) (follows rule) → (k0 chains : Chains) (words : List ℕ) (journal : List Entry) (passes : List PlainPass) → IsProp (Sound k0 chains words journal passes)
-  sound_single one k0 chains words journal passes = hlevel (one.first_is, one.legal_is, one.follows_is, pass_single, props, option_set)
+  sound_single one k0 chains words journal passes = hlevel (one.first_is, one.legal_is, one.follows_is, counted_single, pass_single, props, option_set)

@@ -2,7 +2,7 @@ ghost use Rattle.std.specs.Prelude.{◌≡◌, ◌==◌, Some, None, if◌then�
 ghost use Rattle.sid_core.specs.declared.ids.LeaseName.{LeaseName};
 ghost use Rattle.sid_core.specs.Values.{IsMoment, is_part_of};
 ghost use Rattle.serial_table.specs.File.{FileView};
-ghost use Rattle.serial_table.specs.Break.{break_post, break_lease, breaks_at_once, breaks_read, begins_to_break, first_owner, connected_under, until_of, new_breaking};
+ghost use Rattle.serial_table.specs.Break.{break_post, break_lease, breaks_at_once, breaks_read, begins_to_break, first_owner, connected_under};
 ghost use Rattle.serial_table.specs.LeaseBreak.{breaks_of_owner, breaks_further_by, break_by_owner};
 ghost use Rattle.record_codec.specs.LeaseRec.{IsLeaseRec};
 ghost use Rattle.record_codec.specs.Counts.{Records};
@@ -13,12 +13,9 @@ ghost use Rattle.lease_breaks.specs.Breaks.{first_connected, kept, Does};
 use crate::states::{breaking_of, common_part, first_connected, hold, is_part_of, set_breaking};
 use leases_db::settle;
 use record_codec::LeaseRec;
-use serial_table::Breaking;
+use serial_table::{Breaking, new_breaking};
 use server_ids::Register;
 use sid_core::{LeaseName, LeaseState, Letter, Moment, Post, Sid};
-
-/// How many seconds after a break it counts as acknowledged.
-const BREAK_SECONDS: u64 = 35;
 
 /// What a break comes to beside the record: the letter that is posted, and the session that is waited for.
 #[derive(Clone, Copy)]
@@ -77,22 +74,6 @@ fn breaks_read(name: LeaseName, rec: &mut LeaseRec, to: Sid, target: LeaseState)
 }
 
 /// The moment at which a break that is made now counts as acknowledged.
-fn until_of(now: Moment) -> Moment
-    ensures { result ≡ until_of now }
-{
-    Moment(now.0.saturating_add(BREAK_SECONDS))
-}
-
-fn new_breaking(now: Moment, target: LeaseState) -> Breaking
-    ensures { result ≡ new_breaking now target.0 }
-{
-    Breaking {
-        asked: target,
-        needed: target,
-        until: until_of(now),
-    }
-}
-
 fn begins_to_break(
     name: LeaseName,
     rec: &mut LeaseRec,

@@ -54,7 +54,7 @@ legal_call_single setup t worker number moment call reply = hlevel (call_single,
 legal_death_single : (setup : Setup) (t : Table) (worker : ℕ) (moment : Moment) → IsProp (IsLegalDeath setup t worker moment)
 legal_death_single setup t worker moment = hlevel props
 
-legal_event_single : (setup : Setup) (t : Table) (by : ℕ) (event : Event) → IsProp (IsLegalEvent setup t by event)
+pub legal_event_single : (setup : Setup) (t : Table) (by : ℕ) (event : Event) → IsProp (IsLegalEvent setup t by event)
 legal_event_single setup t by (Called number moment call reply) = legal_call_single setup t by number moment call reply
 legal_event_single setup t by (Died worker moment) = legal_death_single setup t worker moment
 legal_event_single setup t by (Tidied chain) = hlevel props

@@ -13,6 +13,7 @@ use Rattle.sid_core.specs.declared.setup.FileInfo.{FileInfo}
 use Rattle.sid_core.specs.Values.{has}
 use Rattle.sid_core.specs.Words.{state_text, lock_text}
 use Rattle.serial_table.specs.declared.rows.WorkerRow.{WorkerRow}
+use Rattle.serial_table.specs.declared.rows.OpenRow.{OpenRow}
 use Rattle.serial_table.specs.declared.rows.LeaseRow.{LeaseRow}
 use Rattle.serial_table.specs.declared.rows.RangeRow.{RangeRow}
 use Rattle.serial_table.specs.View.{View, has_id}
@@ -62,13 +63,16 @@ files_head =
     line (codes "Locked files:")
     ++ (files_line (codes "Pid") (codes "User") (codes "DenyMode") (codes "Access") (codes "R/W") (codes "Lease") (codes "Path") (codes "Name") (codes "Time") ++ hyphens 78)
 
--- the pid of the owner's session, where it lives
+-- the pid of an owner's session, where it lives
+abbrev pub owner_text : Bool → ℕ → List ℕ
+owner_text connected pid = if connected then decimal pid else codes "-"
+
 abbrev pub pid_text : FileOpen → List ℕ
-pid_text o = if o.connected then decimal o.row.owner.pid else codes "-"
+pid_text o = owner_text o.connected o.row.owner.pid
 
 -- the uid of the present owner's worker
-abbrev pub user_text : Setup → FileOpen → List ℕ
-user_text setup o = option_map_or (λ (info : WorkerInfo). decimal info.uid) (find (λ (info : WorkerInfo). info.pid == o.row.owner.pid) setup.workers) []
+abbrev pub user_text : Setup → ℕ → List ℕ
+user_text setup pid = option_map_or (λ (info : WorkerInfo). decimal info.uid) (find (λ (info : WorkerInfo). info.pid == pid) setup.workers) []
 
 -- what the open denies others, by what it shares of reading and writing
 abbrev pub deny_text : Share → List ℕ
@@ -91,10 +95,14 @@ lease_column (lease ∷ others) = state_text lease.held.0 ++ (if is_some lease.b
 abbrev pub leases_of_open : FileView → FileOpen → List LeaseRow
 leases_of_open f o = option_map_or (λ name. f.leases name) o.row.lease []
 
+-- an open of the file, whether its owner is connected, and the text of its lease
+abbrev pub open_row : Setup → FileInfo → Bool → OpenRow → List ℕ → List ℕ
+open_row setup info connected row lease =
+    files_line (owner_text connected row.owner.pid) (user_text setup row.owner.pid) (deny_text row.share) (access_text row.access) (mode_text row.access) lease
+    info.path info.name (decimal row.opened.0)
+
 abbrev pub files_row : Setup → FileInfo → FileView → FileOpen → List ℕ
-files_row setup info f o =
-    files_line (pid_text o) (user_text setup o) (deny_text o.row.share) (access_text o.row.access) (mode_text o.row.access)
-    (lease_column (leases_of_open f o)) info.path info.name (decimal o.row.opened.0)
+files_row setup info f o = open_row setup info o.connected o.row (lease_column (leases_of_open f o))
 
 abbrev pub file_rows : Setup → FileInfo → FileView → List ℕ
 file_rows setup info f = flat_map (files_row setup info f) f.opens
@@ -104,9 +112,13 @@ abbrev pub of_files : (FileInfo → FileView → List ℕ) → View → ℕ → 
 of_files rows v number [] = []
 of_files rows v number (info ∷ infos) = rows info (file_view number v) ++ of_files rows v (suc number) infos
 
+-- the table that has these rows
+abbrev pub files_page : List ℕ → List ℕ
+files_page rows = rows_or_none (codes "No locked files") files_head rows
+
 -- by file, and then in the order of the opens
 abbrev pub files_table : Setup → View → List ℕ
-files_table setup v = rows_or_none (codes "No locked files") files_head (of_files (file_rows setup) v 1 setup.files)
+files_table setup v = files_page (of_files (file_rows setup) v 1 setup.files)
 
 -- ---- ranges
 
@@ -118,18 +130,24 @@ ranges_head =
     line (codes "Byte range locks:")
     ++ (ranges_line (codes "Pid") (codes "Kind") (codes "Start") (codes "Length") (codes "Name") ++ hyphens 58)
 
+-- a range of the file, and the text of the pid
+abbrev pub range_row : FileInfo → List ℕ → RangeRow → List ℕ
+range_row info pid range = ranges_line pid (lock_text range.mode) (decimal range.span.start) (decimal range.span.length) info.name
+
 -- the pid as of the range's open
 abbrev pub ranges_row : FileInfo → FileView → RangeRow → List ℕ
-ranges_row info f range =
-    ranges_line (option_map_or pid_text (find (λ o. has_id range.id o.row) f.opens) []) (lock_text range.mode) (decimal range.span.start)
-    (decimal range.span.length) info.name
+ranges_row info f range = range_row info (option_map_or pid_text (find (λ o. has_id range.id o.row) f.opens) []) range
 
 abbrev pub range_rows : FileInfo → FileView → List ℕ
 range_rows info f = flat_map (ranges_row info f) f.ranges
 
+-- the table that has these rows
+abbrev pub ranges_page : List ℕ → List ℕ
+ranges_page rows = rows_or_none (codes "No byte range locks") ranges_head rows
+
 -- by file, and then in the order of granting
 abbrev pub ranges_table : Setup → View → List ℕ
-ranges_table setup v = rows_or_none (codes "No byte range locks") ranges_head (of_files range_rows v 1 setup.files)
+ranges_table setup v = ranges_page (of_files range_rows v 1 setup.files)
 
 -- ---- those that are chosen, in this order
 

@@ -78,7 +78,9 @@ fn until_of(now: Moment) -> Moment
     Moment(now.0.saturating_add(BREAK_SECONDS))
 }
 
-fn new_breaking(now: Moment, target: LeaseState) -> Breaking
+/// A break that begins: down to this state, within the 35 seconds of Windows' lease break acknowledgment timer ([MS-SMB2] 3.3.2.5). The
+/// moment at which they end is at most the last one of 64 bits.
+pub fn new_breaking(now: Moment, target: LeaseState) -> Breaking
     ensures { result ≡ new_breaking now target.0 }
 {
     Breaking {

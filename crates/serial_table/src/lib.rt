@@ -51,10 +51,15 @@ pub use laws::{
     sessions_rise_by_one, settled_stays_settled, settling_is_local, sharing_is_symmetric,
     the_living_call, the_living_stay, what_happens_shows,
 };
+pub use lease_break::new_breaking;
 pub use rows::{
     Breaking, EndedRow, HoldRow, LeaseRow, OpenRow, RangeRow, WaiterRow, Watch, WorkerRow,
 };
 pub use share::share_conflict;
+pub use show::{
+    Owner, push_files_page, push_open_row, push_range_row, push_ranges_page, push_shares_head,
+    push_worker_row,
+};
 pub use sound::{
     calls_have_new_numbers, changes_keep_consistent, changes_stay_in_their_sets,
     disconnected_owners_have_ended, legal_entries_fit, legal_histories_are_bounded,

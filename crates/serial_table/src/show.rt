@@ -3,6 +3,7 @@ mod files;
 mod index;
 mod ranges;
 mod shares;
+mod writers;
 
 ghost use Rattle.std.specs.Prelude.{◌≡◌, ◌++◌, OnOk};
 ghost use Rattle.serial_table.specs.View.{view};
@@ -10,6 +11,10 @@ ghost use Rattle.serial_table.specs.Tables.{table_if, shares_table, files_table,
 
 use crate::table::Table;
 use sid_core::{OutOfMemory, Setup, Tables};
+pub use writers::{
+    Owner, push_files_page, push_open_row, push_range_row, push_ranges_page, push_shares_head,
+    push_worker_row,
+};
 
 fn show_shares(
     out: &mut Vec<u8>,

@@ -61,7 +61,9 @@ fn has_ref(refs: &[LeaseRef], id: OpenId) -> bool
     refs.iter().any(|reference| reference.id == id)
 }
 
-fn keeps(register: &Register, file: u32, id: OpenId, lease: &LeaseRec) -> bool
+/// Whether a lease keeps an open of the file that is durable and whose owner doesn't live: it is of the file, refers to the open, and has
+/// HANDLE once it is settled.
+pub fn keeps(register: &Register, file: u32, id: OpenId, lease: &LeaseRec) -> bool
     ensures { result ≡ counts.keeps (registered register.now) file id (Some lease.now) }
 {
     lease.file == file && has_ref(lease.refs.as_slice(), id) && keeps_handle(register, lease)

@@ -6,5 +6,5 @@ mod entries;
 mod sharing;
 
 pub use asked::{Asked, Violates};
-pub use entries::{add, counts, remove, valid_entries};
+pub use entries::{add, counts, keeps, remove, valid_entries};
 pub use sharing::{share_conflict, violates};

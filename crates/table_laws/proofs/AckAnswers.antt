@@ -1,13 +1,17 @@
--- `ack` is legal by the chains of its footprint alone.
-use Rattle.std.proofs.Common.{◌≡◌, ℕ, true, ◌==◌, List, [], ◌∷◌, ◌++◌, map, filter, Option, Some, None, refl, sym, ap, ◌∙◌, subst, inl}
+-- `ack` is legal by the chains of its footprint alone, and changes the table by them alone.
+use Rattle.std.proofs.Common.{◌≡◌, ℕ, Bool, true, ◌==◌, List, [], ◌∷◌, ◌++◌, map, filter, Option, Some, None, refl, sym, ap, ◌∙◌, subst, inl}
+use Rattle.std.specs.List.{list_all}
 use Rattle.std.specs.Option.{option_map_or, option_and_then}
-use Rattle.std.proofs.lemmas.Bool.{and_parts, eq-eqb}
+use Rattle.std.proofs.lemmas.Bool.{and_parts, cond_both, eq-eqb}
 use Rattle.sid_core.specs.declared.bits.LeaseState.{LeaseState}
 use Rattle.sid_core.specs.declared.call.Call.{Call}
 use Rattle.sid_core.specs.declared.call.Call.TheVariants as call
 use Rattle.sid_core.specs.declared.ids.LeaseName.{LeaseName}
 use Rattle.sid_core.specs.declared.ids.Moment.{Moment}
+use Rattle.sid_core.specs.declared.ids.Spot.{Spot}
 use Rattle.sid_core.specs.declared.reply.Reply.{Reply}
+use Rattle.sid_core.specs.declared.reply.Reply.TheVariants.{RequestNotAccepted}
+use Rattle.sid_core.specs.Values.{is_part_of}
 use Rattle.sid_core.specs.declared.setup.Setup.{Setup}
 use Rattle.sid_core.specs.declared.setup.WorkerInfo.{WorkerInfo}
 use Rattle.serial_table.specs.declared.rows.OpenRow.{OpenRow}
@@ -16,9 +20,12 @@ use Rattle.serial_table.specs.declared.rows.Breaking.{Breaking}
 use Rattle.serial_table.specs.declared.table.Table.{Table}
 use Rattle.serial_table.specs.declared.decision.Caller.{Caller}
 use Rattle.serial_table.specs.declared.decision.Decision.{Decision}
-use Rattle.serial_table.specs.Ack.{ack_lease, ack_first, ack}
+use Rattle.serial_table.specs.Ack.{acknowledged, accept, ack_lease, ack_first, ack}
+use Rattle.serial_table.specs.Break.{break_lease}
+use Rattle.serial_table.specs.Decision.{only_reply, spots_of, conclude}
+use Rattle.serial_table.specs.Decide.{outcome}
 use Rattle.serial_table.specs.Asked.{own_lease}
-use Rattle.serial_table.specs.View.{View, view, carries, has_name, is_of_file}
+use Rattle.serial_table.specs.View.{View, view, lives, carries, has_name, is_of_file}
 use Rattle.serial_table.specs.File.{FileView, file_view}
 use Rattle.serial_table.specs.Change.{perform_all}
 use Rattle.serial_table.specs.Expire.{look, due, is_due, expires, then_settles, expired_by}
@@ -43,7 +50,11 @@ use Rattle.stored_table.proofs.Telling.{file_tells}
 use Rattle.table_laws.specs.Standing.{call_entry}
 use Rattle.table_laws.specs.ByFootprint.{IsLegalByFootprint}
 use Rattle.table_laws.proofs.Lists.{append_nothing, filter_every}
-use Rattle.table_laws.proofs.Chains.{IsFine}
+use Rattle.table_laws.proofs.Calls.{changes_are}
+use Rattle.table_laws.proofs.Chains.{IsFine, adds_no_open}
+use Rattle.table_laws.proofs.FilesAlike.{none_comes, file_concluded}
+use Rattle.table_laws.proofs.Keywise.{woken_alike, concluded_alike}
+use Rattle.table_laws.proofs.Touching.{touches}
 use Rattle.table_laws.proofs.Exactly.{single, exact_is, IsUnder}
 use Rattle.table_laws.proofs.KeysThere.{recorded_key}
 use Rattle.table_laws.proofs.Meets.{entry_recorded}
@@ -100,6 +111,21 @@ acked_same caller key state v w e h = by (v.leases_of (own_lease caller key)) h 
     by [] h = refl
     by (l ∷ ls) h = ap (λ f. ack_lease caller.moment f l state l.breaking) (h l (inl refl))
 
+-- each spot that it may free is of the file of a lease of the name
+acked_spots : (caller : Caller) (key : ℕ) (state : LeaseState) (v : View) (spot : Spot) → IsIn spot (ack v caller key state).spots → (l : LeaseRow) × IsIn l (v.leases_of (own_lease caller key)) × IsIn spot (spots_of l.file)
+unfolding ack
+acked_spots caller key state v = by (v.leases_of (own_lease caller key))
+  where
+    of_lease : (f : FileView) (l : LeaseRow) (breaking : Option Breaking) (spot : Spot) → IsIn spot (ack_lease caller.moment f l state breaking).spots → IsIn spot (spots_of l.file)
+    of_lease f l None = λ spot i. absurd i
+    of_lease f l (Some b) =
+        cond_both (is_part_of state.0 b.asked.0) (accept l state (break_lease caller.moment l.file f b.needed.0 (acknowledged l state))) (only_reply RequestNotAccepted)
+        (λ (d : Decision). (spot : Spot) → IsIn spot d.spots → IsIn spot (spots_of l.file)) (λ _ spot i. i) (λ _ spot i. absurd i)
+
+    by : (ls : List LeaseRow) (spot : Spot) → IsIn spot (ack_first caller.moment v ls state).spots → (l : LeaseRow) × IsIn l ls × IsIn spot (spots_of l.file)
+    by [] spot i = absurd i
+    by (l ∷ ls) spot i = (l, inl refl, of_lease (file_view l.file v) l l.breaking spot i)
+
 module _ (setup : Setup) (caller : Caller) (key : ℕ) (state : LeaseState) where
   abbrev name : LeaseName
   name = own_lease caller key
@@ -148,21 +174,44 @@ module _ (setup : Setup) (caller : Caller) (key : ℕ) (state : LeaseState) wher
     file_behind : file_view first.file (view (behind t)) ≡ perform_all_in_file (expired_by setup (view t) caller which) (file_view first.file (view t))
     file_behind = view_behind setup caller first.file which t due_of_first
 
-  decided_by : (t u : Table) → IsSound t → IsSound u → (view t).leases_of name ≡ (view u).leases_of name → ((l : LeaseRow) → IsIn l ((view t).leases_of name) → file_view l.file (view t) ≡ file_view l.file (view u))
-      → (ls : List LeaseRow) → (view t).leases_of name ≡ ls → ack (view (behind t)) caller key state ≡ ack (view (behind u)) caller key state
-  decided_by t u sound sound_other same shows [] is =
-      let a = none_behind t is in
-      let b = none_behind u (sym same ∙ is) in
-      acked_same caller key state (view (behind t)) (view (behind u)) (a ∙ sym b) (λ l i. absurd (subst (IsIn l) a i))
-  decided_by t u sound sound_other same shows (first ∷ ls) is =
-      let other : (view u).leases_of name ≡ first ∷ ls = sym same ∙ is in
-      let files : file_view first.file (view (behind t)) ≡ file_view first.file (view (behind u)) =
-      file_behind t sound first ls is
-      ∙ (λ i. perform_all_in_file (expired_same t u same i) (shows first (subst (IsIn first) (sym is) (inl refl)) i))
-      ∙ sym (file_behind u sound_other first ls other) in
-      acked_same caller key state (view (behind t)) (view (behind u))
-      (behind_leases t sound first ls is ∙ ap (λ (f : FileView). f.leases name) files ∙ sym (behind_leases u sound_other first ls other))
-      (λ l i. subst (λ g. file_view g (view (behind t)) ≡ file_view g (view (behind u))) (sym (behind_of_first t sound first ls is l i)) files)
+  module _ (t u : Table) (sound : IsSound t) (sound_other : IsSound u) (same : (view t).leases_of (own_lease caller key) ≡ (view u).leases_of (own_lease caller key))
+      (shows : (l : LeaseRow) → IsIn l ((view t).leases_of (own_lease caller key)) → file_view l.file (view t) ≡ file_view l.file (view u)) where
+    files_behind : (first : LeaseRow) (ls : List LeaseRow) → (view t).leases_of name ≡ first ∷ ls → file_view first.file (view (behind t)) ≡ file_view first.file (view (behind u))
+    files_behind first ls is =
+        file_behind t sound first ls is
+        ∙ (λ i. perform_all_in_file (expired_same t u same i) (shows first (subst (IsIn first) (sym is) (inl refl)) i))
+        ∙ sym (file_behind u sound_other first ls (sym same ∙ is))
+
+    decided_by : (ls : List LeaseRow) → (view t).leases_of name ≡ ls → ack (view (behind t)) caller key state ≡ ack (view (behind u)) caller key state
+    decided_by [] is =
+        let a = none_behind t is in
+        let b = none_behind u (sym same ∙ is) in
+        acked_same caller key state (view (behind t)) (view (behind u)) (a ∙ sym b) (λ l i. absurd (subst (IsIn l) a i))
+    decided_by (first ∷ ls) is =
+        acked_same caller key state (view (behind t)) (view (behind u))
+        (behind_leases t sound first ls is ∙ ap (λ (f : FileView). f.leases name) (files_behind first ls is) ∙ sym (behind_leases u sound_other first ls (sym same ∙ is)))
+        (λ l i. subst (λ g. file_view g (view (behind t)) ≡ file_view g (view (behind u))) (sym (behind_of_first t sound first ls is l i)) (files_behind first ls is))
+
+    -- ---- what it comes to, where it adds no open
+
+    module _ (here : ℕ → Bool) (touched : list_all (touches here) (ack (view (behind t)) caller key state).changes ≡ true) (none : list_all adds_no_open (ack (view (behind t)) caller key state).changes ≡ true) where
+      comes_to : (ls : List LeaseRow) → (view t).leases_of name ≡ ls → (conclude (view (behind t)) (ack (view (behind t)) caller key state)).changes ≡ (conclude (view (behind u)) (ack (view (behind t)) caller key state)).changes
+      comes_to [] is =
+          let d = ack (view (behind t)) caller key state in
+          let no_spot : (spot : Spot) → IsIn spot d.spots → ⊥ = λ spot i. let l = acked_spots caller key state (view (behind t)) spot i in subst (IsIn l.0) (none_behind t is) l.1 in
+          concluded_alike (view (behind t)) (view (behind u)) d (woken_alike (view (behind t)) (view (behind u)) d (λ spot i. absurd (no_spot spot i)) (λ spot i. absurd (no_spot spot i)))
+      comes_to (first ∷ ls) is =
+          let d = ack (view (behind t)) caller key state in
+          file_concluded here first.file d (behind t) (behind u) touched (none_comes (lives (view (behind t))) (lives (view (behind u))) d.changes none)
+          (λ spot i. let l = acked_spots caller key state (view (behind t)) spot i in subst (λ f. IsIn spot (spots_of f)) (behind_of_first t sound first ls is l.0 l.1) l.2)
+          (files_behind first ls is)
+
+      pub ack_changes_same : (outcome setup (view t) caller which).changes ≡ (outcome setup (view u) caller which).changes
+      ack_changes_same =
+          changes_are setup t caller which
+          ∙ (λ i. expired_same t u same i ++ comes_to ((view t).leases_of name) refl i)
+          ∙ ap (λ (d : Decision). expired_by setup (view u) caller which ++ (conclude (view (behind u)) d).changes) (decided_by ((view t).leases_of name) refl)
+          ∙ sym (changes_are setup u caller which)
 
 -- ---- the law
 
@@ -185,7 +234,7 @@ module _ (setup : Setup) (n by seq number : ℕ) (moment : Moment) (key : ℕ) (
     abbrev own : KeyList
     own = pid_key info.pid ∷ []
 
-    own_leases_same : (view t).leases_of (own_lease caller key) ≡ (view u).leases_of (own_lease caller key)
+    pub own_leases_same : (view t).leases_of (own_lease caller key) ≡ (view u).leases_of (own_lease caller key)
     own_leases_same =
         ap (view t).leases_of name_is
         ∙ leases_same setup (records_of setup n k) (records_of setup n j) t u stands.agree stands_other.agree fine.sound fine_other.sound declared (asked_lease_same setup n k j [] [] files names own same declared (inl refl))
@@ -200,7 +249,7 @@ module _ (setup : Setup) (n by seq number : ℕ) (moment : Moment) (key : ℕ) (
         (ap (stored.has_name declared) r.1
         ∙ any_of (λ (x : ShareEntry). carries declared x.lease) r.0.entries (entry_of o.0) r.2 (ap (λ m. carries m o.0.lease) (sym name_is) ∙ o.1.carried))
 
-    files_shown : (l : LeaseRow) → IsIn l ((view t).leases_of (own_lease caller key)) → file_view l.file (view t) ≡ file_view l.file (view u)
+    pub files_shown : (l : LeaseRow) → IsIn l ((view t).leases_of (own_lease caller key)) → file_view l.file (view t) ≡ file_view l.file (view u)
     files_shown l i =
         sym (file_tells setup (records_of setup n k) t stands.agree fine.sets fine.sound l.file)
         ∙ shown_same (records_of setup n k) (records_of setup n j) l.file (file_same setup n k j [] [] files names own same l.file (file_there l i))

@@ -31,6 +31,7 @@ use Rattle.serial_table.specs.View.{view, lives, carries, has_name, is_of_file}
 use Rattle.serial_table.specs.File.{FileOpen, file_view, file_open}
 use Rattle.serial_table.specs.Settle.{settle}
 use Rattle.serial_table.specs.Change.{perform_all}
+use Rattle.serial_table.specs.Decide.{outcome}
 use Rattle.serial_table.specs.Decision.{only_reply, spots_of}
 use Rattle.serial_table.specs.Expire.{look, due, is_due, expires, expired_by}
 use Rattle.serial_table.specs.History.{after, IsLegal}
@@ -55,9 +56,10 @@ use Rattle.table_laws.proofs.Contained.{share_place, ranges_place, mail_place, I
 use Rattle.table_laws.proofs.Exactly.{in_opens, single}
 use Rattle.table_laws.proofs.Meets.{entry_recorded, files_written, leases_met, owner_mail, open_watcher_met, range_watcher_met}
 use Rattle.table_laws.proofs.KeysThere.{recorded_key}
+use Rattle.table_laws.proofs.Touching.{touches}
 use Rattle.table_laws.proofs.Deciding.{IsContained, reply_contained}
 use Rattle.table_laws.proofs.Chains.{IsFine, adds_no_open}
-use Rattle.table_laws.proofs.Calls.{call_contained, call_opens, open_behind}
+use Rattle.table_laws.proofs.Calls.{call_contained, call_touches, call_adds_none, call_opens, open_behind}
 use Rattle.table_laws.proofs.Breaking.{AreBreaks, OwnersHave, lease_breaks, breaks_touch, breaks_reach, breaks_wait, breaks_open}
 use Rattle.table_laws.proofs.HandleEvents.{entry, keeps_standing}
 
@@ -101,7 +103,7 @@ module _ (setup : Setup) (n : ℕ) (k : Chains) (t : Table) (stands : StandsFor 
       let p = and_parts (o.0.file == l.file) (carries l.name o.0.lease) o.2 in
       (o.0, passes_in (is_of_file l.file) t.opens o.0 o.1 p.0, ap (λ m. carries m o.0.lease) (sym (same_name-eq l.name name at.1)) ∙ p.1)
 
-  file_there : (file : ℕ) → named_file file ≡ true → IsIn (file_key setup file) files
+  pub file_there : (file : ℕ) → named_file file ≡ true → IsIn (file_key setup file) files
   file_there file e =
       let l = one_of (λ (l : LeaseRow). l.file == file) ((view t).leases_of name) e in
       let same : l.0.file ≡ file = eqb-true l.0.file file l.2 in
@@ -112,10 +114,10 @@ module _ (setup : Setup) (n : ℕ) (k : Chains) (t : Table) (stands : StandsFor 
       (ap (stored.has_name declared_name) r.1
       ∙ any_of (λ (x : ShareEntry). carries declared_name x.lease) r.0.entries (entry_of o.0) r.2 (ap (λ m. carries m o.0.lease) (sym name_is) ∙ o.2))
 
-  written : (file : ℕ) → named_file file ≡ true → (among (share_place setup file) name_places ≡ true) × (among (ranges_place setup file) name_places ≡ true)
+  pub written : (file : ℕ) → named_file file ≡ true → (among (share_place setup file) name_places ≡ true) × (among (ranges_place setup file) name_places ≡ true)
   written file e = files_written setup n k t stands.agree fine.sound fine.sets [] [] files names own file (file_there file e)
 
-  met_names : (o : OpenRow) → IsIn o t.opens → named_file o.file ≡ true → IsMetName name_places o.lease
+  pub met_names : (o : OpenRow) → IsIn o t.opens → named_file o.file ≡ true → IsMetName name_places o.lease
   met_names o i e = leases_met setup n k t stands.agree fine.sound fine.sets [] [] files names own o.file (file_there o.file e) o (in_opens t fine.sound o i)
 
   own_file : (l : LeaseRow) → IsIn l ((view t).leases_of name) → named_file l.file ≡ true
@@ -209,6 +211,14 @@ module _ (setup : Setup) (n : ℕ) (k : Chains) (t : Table) (stands : StandsFor 
 
     pub ack_inside : Inside (ack_first caller.moment (view behind) ((view behind).leases_of (own_lease caller key)) state)
     ack_inside = first_acked ((view behind).leases_of name) lease_behind
+
+    pub ack_touches : list_all (touches named_file) (outcome setup (view t) caller (call.Ack key state)).changes ≡ true
+    unfolding ack
+    ack_touches = call_touches setup name_places s named_file t caller (call.Ack key state) written met_names settled looked ack_inside.0
+
+    pub ack_adds_none : list_all adds_no_open (outcome setup (view t) caller (call.Ack key state)).changes ≡ true
+    unfolding ack
+    ack_adds_none = call_adds_none setup name_places s named_file t caller (call.Ack key state) written met_names settled looked ack_inside.0 ack_inside.1
 
 module _ (setup : Setup) (n : ℕ) (is : IsSetup setup) (before : List Entry) (by seq number : ℕ) (moment : Moment) (key : ℕ) (state : LeaseState) (reply : Reply) where
   pub ack_stands : IsLegal setup (before ++ entry setup n is before by seq number moment (call.Ack key state) reply ∷ [])

@@ -35,10 +35,10 @@ pub is_open_key : (pid number : ℕ) → pid < 2 ^ 32 → number < 2 ^ 32 → is
 is_open_key pid number a b = ap (is_key db.Opens) (open_key_is pid number a b) ∙ bytes_append (big_bytes 4 pid) (big_bytes 4 number) (are_bytes 4 pid) (are_bytes 4 number)
 
 -- the pid and the number that a key says
-key_pid : (pid number : ℕ) → pid < 2 ^ 32 → number < 2 ^ 32 → big_number 4 (open_key pid number) ≡ pid
+pub key_pid : (pid number : ℕ) → pid < 2 ^ 32 → number < 2 ^ 32 → big_number 4 (open_key pid number) ≡ pid
 key_pid pid number a b = ap (big_number 4) (open_key_is pid number a b) ∙ big_number-reads_back 4 pid (big_bytes 4 number) a
 
-key_number : (pid number : ℕ) → pid < 2 ^ 32 → number < 2 ^ 32 → big_number 4 (drop 4 (open_key pid number)) ≡ number
+pub key_number : (pid number : ℕ) → pid < 2 ^ 32 → number < 2 ^ 32 → big_number 4 (drop 4 (open_key pid number)) ≡ number
 key_number pid number a b = ap (λ key. big_number 4 (drop 4 key)) (open_key_is pid number a b) ∙ big_number-reads_back 4 number [] b
 
 -- ---- numbers that no open has yet

@@ -31,7 +31,7 @@ use Rattle.stored_table.specs.Exact.{register_record}
 use Rattle.stored_table.specs.Met.{met, all_met}
 use Rattle.stored_table.specs.Stands.{AgreeWith, StandsFor, clean_register}
 use Rattle.table_laws.specs.Standing.{call_entry}
-use Rattle.table_laws.specs.ByFootprint.{IsLegalByFootprint}
+use Rattle.table_laws.specs.ByFootprint.{AgreeOnFootprint, IsLegalByFootprint}
 use Rattle.table_laws.proofs.Chains.{IsFine, legal_is_fine}
 use Rattle.table_laws.proofs.Footprints.{met_value}
 
@@ -86,9 +86,9 @@ pub record IsAnsweredAlike (setup : Setup) (n : ℕ) (k j : Chains) (which : Cal
 
 module _ (setup : Setup) (n by seq number : ℕ) (moment : Moment) (which : Call) (reply : Reply)
     (owes : (k j : Chains) → HasChains n k → (caller : Caller) (info : WorkerInfo) → declared_at setup.workers by ≡ Some info → caller.sid.pid ≡ info.pid → caller.guid ≡ info.guid → IsCall setup which
-    → ((p : Place) → among p (all_met (met setup n k (call_entry by seq number moment which reply))) ≡ true → value_at n k p ≡ value_at n j p) → IsAnsweredAlike setup n k j which caller info) where
-  pub legal_if : IsLegalByFootprint setup n (call_entry by seq number moment which reply)
-  legal_if k j before other is legal legal_other stands stands_other agree at = from_caller (caller_of setup (view (after setup before)) by number moment) refl
+    → AgreeOnFootprint setup n k j (call_entry by seq number moment which reply) → IsAnsweredAlike setup n k j which caller info) where
+  pub legal_if_agreed : IsLegalByFootprint setup n (call_entry by seq number moment which reply)
+  legal_if_agreed k j before other is legal legal_other stands stands_other agree at = from_caller (caller_of setup (view (after setup before)) by number moment) refl
     where
       from_caller : (o : Option Caller) → caller_of setup (view (after setup before)) by number moment ≡ o → IsLegalCall setup (after setup other) by number moment which reply
       from_caller None from = absurd (no_answer (ap (λ o. option_map (λ (done : Outcome). done.reply) (option_map (λ caller. outcome setup (view (after setup before)) caller which) o)) (sym from) ∙ at.answered))
@@ -99,7 +99,7 @@ module _ (setup : Setup) (n by seq number : ℕ) (moment : Moment) (which : Call
           let t = after setup before in
           let u = after setup other in
           let of = is_caller_of setup t by number moment caller from in
-          let alike = owes k j stands.well_formed.chains caller of.info of.declared of.pid of.guid_is at.in_sets (met_value setup n k j (call_entry by seq number moment which reply) stands.well_formed.chains agree) in
+          let alike = owes k j stands.well_formed.chains caller of.info of.declared of.pid of.guid_is at.in_sets agree in
           let from_other = sym (caller_same setup (records_of setup n k) (records_of setup n j) t u stands.agree stands_other.agree by number moment of.info of.declared (alike.worker t stands of.alive)) ∙ from in
           let answers = alike.answers t u stands stands_other (legal_is_fine setup before is legal) (legal_is_fine setup other is legal_other) of.alive (is_caller_of setup u by number moment caller from_other).alive
           (after_all-settled setup (start setup) before (start-settled setup)) (after_all-settled setup (start setup) other (start-settled setup)) in
@@ -114,3 +114,11 @@ module _ (setup : Setup) (n by seq number : ℕ) (moment : Moment) (which : Call
                 ∙ sym (behind_copy_reply setup t (perform_all (expired_by setup (view t) caller which) t) caller which refl))
                 ∙ ap (λ o. option_map (λ (done : Outcome). done.reply) (option_map (λ caller. outcome setup (view t) caller which) o)) (sym from) ∙ at.answered;
           }
+
+module _ (setup : Setup) (n by seq number : ℕ) (moment : Moment) (which : Call) (reply : Reply)
+    (owes : (k j : Chains) → HasChains n k → (caller : Caller) (info : WorkerInfo) → declared_at setup.workers by ≡ Some info → caller.sid.pid ≡ info.pid → caller.guid ≡ info.guid → IsCall setup which
+    → ((p : Place) → among p (all_met (met setup n k (call_entry by seq number moment which reply))) ≡ true → value_at n k p ≡ value_at n j p) → IsAnsweredAlike setup n k j which caller info) where
+  pub legal_if : IsLegalByFootprint setup n (call_entry by seq number moment which reply)
+  legal_if =
+      legal_if_agreed setup n by seq number moment which reply (λ k j a caller info declared pid guid in_sets agree.
+      owes k j a caller info declared pid guid in_sets (met_value setup n k j (call_entry by seq number moment which reply) a agree))

@@ -55,7 +55,7 @@ module _ (here : ℕ → Bool) where
   one_touches (c.NextSession sid moment) e = absurd cc
 
   -- what holds of setting a lease and of settling, holds of breaks
-  one_passes : (p : Change → Bool) → ((file : ℕ) (name : LeaseName) (held : Rattle.sid_core.specs.declared.bits.LeaseState.LeaseState) (breaking : Option Breaking) → p (c.SetLease file name held breaking) ≡ true) → p c.Settle ≡ true
+  pub one_passes : (p : Change → Bool) → ((file : ℕ) (name : LeaseName) (held : Rattle.sid_core.specs.declared.bits.LeaseState.LeaseState) (breaking : Option Breaking) → p (c.SetLease file name held breaking) ≡ true) → p c.Settle ≡ true
       → (change : Change) → is_break here change ≡ true → p change ≡ true
   one_passes p f s (c.SetLease file name held breaking) e = f file name held breaking
   one_passes p f s c.Settle e = s
@@ -78,7 +78,7 @@ module _ (here : ℕ → Bool) where
   one_passes p f s (c.EndSession sid moment) e = absurd cc
   one_passes p f s (c.NextSession sid moment) e = absurd cc
 
-  all_weaker : (p q : Change → Bool) → ((change : Change) → p change ≡ true → q change ≡ true) → (cs : List Change) → list_all p cs ≡ true → list_all q cs ≡ true
+  pub all_weaker : (p q : Change → Bool) → ((change : Change) → p change ≡ true → q change ≡ true) → (cs : List Change) → list_all p cs ≡ true → list_all q cs ≡ true
   all_weaker p q f [] e = refl
   all_weaker p q f (change ∷ cs) e = let both = and_parts (p change) (list_all p cs) e in and_from (q change) (list_all q cs) (f change both.0) (all_weaker p q f cs both.1)
 

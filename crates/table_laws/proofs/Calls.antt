@@ -80,6 +80,12 @@ lease_of_file t sound o name l i is j =
 
 -- ---- the whole call
 
+-- what expires before it, and then what its decision comes to at the table behind
+pub changes_are : (setup : Setup) (t : Table) (caller : Caller) (call : Call) → (outcome setup (view t) caller call).changes
+    ≡ expired_by setup (view t) caller call
+    ++ (conclude (view (perform_all (expired_by setup (view t) caller call) t)) (decide setup (view (perform_all (expired_by setup (view t) caller call) t)) caller call)).changes
+changes_are setup t caller call = ap (λ v. expired_by setup (view t) caller call ++ (conclude v (decide setup v caller call)).changes) (sym (view-perform_all (expired_by setup (view t) caller call) t))
+
 module _ (setup : Setup) (ps : List Place) (s : AllRecords) (here : ℕ → Bool) (t : Table) (caller : Caller) (call : Call)
     (written : (file : ℕ) → here file ≡ true → (among (share_place setup file) ps ≡ true) × (among (ranges_place setup file) ps ≡ true))
     (names : (o : OpenRow) → IsIn o t.opens → here o.file ≡ true → IsMetName ps o.lease)
@@ -121,26 +127,30 @@ module _ (setup : Setup) (ps : List Place) (s : AllRecords) (here : ℕ → Bool
     abbrev all_changes : List Change
     all_changes = expired_by setup (view t) caller call ++ (conclude (view behind) (decide setup (view behind) caller call)).changes
 
-    changes_are : (outcome setup (view t) caller call).changes ≡ all_changes
-    changes_are = ap (λ v. expired_by setup (view t) caller call ++ (conclude v (decide setup v caller call)).changes) (sym (view-perform_all (expired_by setup (view t) caller call) t))
+    touched : list_all (touches here) all_changes ≡ true
+    touched = list_all-append (touches here) (expired_by setup (view t) caller call) _ ∙ and_from (list_all (touches here) (expired_by setup (view t) caller call)) _ first_touched later.touched
+
+    pub call_touches : list_all (touches here) (outcome setup (view t) caller call).changes ≡ true
+    call_touches = ap (list_all (touches here)) (changes_are setup t caller call) ∙ touched
 
     pub call_contained : Contained setup ps s t (perform_all (outcome setup (view t) caller call).changes t)
     call_contained =
-        subst (λ cs. Contained setup ps s t (perform_all cs t)) (sym changes_are)
-        (contained setup ps s here t all_changes written names settled
-        (list_all-append (touches here) (expired_by setup (view t) caller call) _ ∙ and_from (list_all (touches here) (expired_by setup (view t) caller call)) _ first_touched later.touched)
+        subst (λ cs. Contained setup ps s t (perform_all cs t)) (sym (changes_are setup t caller call))
+        (contained setup ps s here t all_changes written names settled touched
         (list_all-append (reaches setup ps) (expired_by setup (view t) caller call) _ ∙ and_from (list_all (reaches setup ps) (expired_by setup (view t) caller call)) _ first_reached later.reached)
         (all_joined (IsNewIn s) (expired_by setup (view t) caller call) _ (none_new s (expired_by setup (view t) caller call) first_no_waiter) later.new))
 
     -- where it adds none, all opens were there before
-    pub call_opens : list_all adds_no_open (decide setup (view behind) caller call).changes ≡ true → (o : OpenRow) → IsIn o (perform_all (outcome setup (view t) caller call).changes t).opens → IsIn o t.opens
-    call_opens none o i =
-        all_still_in here all_changes t o
-        (list_all-append adds_no_open (expired_by setup (view t) caller call) _
-        ∙ and_from (list_all adds_no_open (expired_by setup (view t) caller call)) _ first_no_open
-        (conclude_all adds_no_open (record { comes = λ x. refl; goes = λ sid call. refl; sent = λ post. refl }) refl (view behind) (decide setup (view behind) caller call) none))
-        (list_all-append (touches here) (expired_by setup (view t) caller call) _ ∙ and_from (list_all (touches here) (expired_by setup (view t) caller call)) _ first_touched later.touched)
-        (subst (λ cs. IsIn o (perform_all cs t).opens) changes_are i)
+    module _ (none : list_all adds_no_open (decide setup (view behind) caller call).changes ≡ true) where
+      pub call_adds_none : list_all adds_no_open (outcome setup (view t) caller call).changes ≡ true
+      call_adds_none =
+          ap (list_all adds_no_open) (changes_are setup t caller call)
+          ∙ list_all-append adds_no_open (expired_by setup (view t) caller call) _
+          ∙ and_from (list_all adds_no_open (expired_by setup (view t) caller call)) _ first_no_open
+          (conclude_all adds_no_open (record { comes = λ x. refl; goes = λ sid call. refl; sent = λ post. refl }) refl (view behind) (decide setup (view behind) caller call) none)
+
+      pub call_opens : (o : OpenRow) → IsIn o (perform_all (outcome setup (view t) caller call).changes t).opens → IsIn o t.opens
+      call_opens o i = all_still_in here (outcome setup (view t) caller call).changes t o call_adds_none call_touches i
 
 -- the table after a call
 pub after_call : (setup : Setup) (t : Table) (by number : ℕ) (moment : Moment) (call : Call) (reply : Reply) (caller : Caller) → caller_of setup (view t) by number moment ≡ Some caller

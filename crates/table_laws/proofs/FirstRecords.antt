@@ -1,5 +1,5 @@
 -- The first records name no session that a worker hasn't had, and no call.
-use Rattle.std.proofs.Common.{◌≡◌, ℕ, ◌*◌, ◌≤◌, Bool, true, false, cond, [], replicate, Option, Some, None, refl, sym, ap, ◌∙◌, subst}
+use Rattle.std.proofs.Common.{List, ◌≡◌, ℕ, ◌*◌, ◌≤◌, Bool, true, false, cond, [], replicate, Option, Some, None, refl, sym, ap, ◌∙◌, subst}
 use Rattle.std.specs.Option.{option_map, option_and_then}
 use Rattle.std.specs.List.{AllByRecursion}
 use Rattle.std.proofs.lemmas.List.{get_or-replicate, length-replicate}
@@ -25,6 +25,7 @@ use Rattle.record_codec.specs.declared.glock_rec.Hold.{Hold}
 use Rattle.record_codec.specs.declared.lease_rec.LeaseRec.{LeaseRec}
 use Rattle.record_codec.specs.declared.lease_rec.LeaseRef.{LeaseRef}
 use Rattle.record_codec.specs.Codec.{Codec}
+use Rattle.record_codec.specs.OpenRec.{open_rec}
 use Rattle.record_codec.specs.GLockRec.{glock_rec}
 use Rattle.record_codec.specs.ShareRec.{share_rec}
 use Rattle.record_codec.specs.LeaseRec.{lease_rec}
@@ -77,6 +78,9 @@ module _ (setup : Setup) (n : ℕ) (is : IsSetup setup) (some : 1 ≤ n) where
 
   no_lock : (key : ℕ) → (records_of setup n (first_chains setup n)).locks key ≡ None
   no_lock key = let p = place db.GLock (lock_key key) in ap (decoded glock_rec) (first_value p) ∙ none_decoded glock_rec (written p) (is_key db.GLock (lock_key key))
+
+  pub no_open : (key : List ℕ) → decoded open_rec (value_at n (first_chains setup n) (place db.Opens key)) ≡ None
+  no_open key = let p = place db.Opens key in ap (decoded open_rec) (first_value p) ∙ none_decoded open_rec (written p) (is_key db.Opens key)
 
   no_lease : (name : LeaseName) → (records_of setup n (first_chains setup n)).leases name ≡ None
   no_lease name = let p = place db.Leases (name_key name) in ap (decoded lease_rec) (first_value p) ∙ none_decoded lease_rec (written p) (is_key db.Leases (name_key name))

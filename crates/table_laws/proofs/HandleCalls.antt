@@ -31,9 +31,10 @@ use Rattle.stored_table.specs.Stands.{AgreeWith, HasOpenRecords, StandsFor}
 use Rattle.table_laws.proofs.Contained.{share_place, ranges_place, IsMetName, Contained}
 use Rattle.table_laws.proofs.Exactly.{in_opens}
 use Rattle.table_laws.proofs.Meets.{flat_mapped_in, files_written, leases_met, open_watcher_met, range_watcher_met}
+use Rattle.table_laws.proofs.Touching.{touches}
 use Rattle.table_laws.proofs.Deciding.{AreWatchersMet, IsContained}
 use Rattle.table_laws.proofs.Chains.{IsFine, adds_no_open}
-use Rattle.table_laws.proofs.Calls.{once_in, carried_in, lease_of_file, call_contained, call_opens, open_behind}
+use Rattle.table_laws.proofs.Calls.{once_in, carried_in, lease_of_file, call_contained, call_touches, call_adds_none, call_opens, open_behind}
 
 module _ (setup : Setup) (n : ℕ) (k : Chains) (t : Table) (stands : StandsFor setup n k (view t)) (fine : IsFine setup t) (settled : settle t ≡ t)
     (caller : Caller) (info : WorkerInfo) (pid : caller.sid.pid ≡ info.pid) (handle : ℕ) where
@@ -83,7 +84,7 @@ module _ (setup : Setup) (n : ℕ) (k : Chains) (t : Table) (stands : StandsFor 
   here_row : (file : ℕ) → here file ≡ true → (row : OpenRow) × IsIn row ((view t).opens_of_handle caller.sid handle) × (row.file ≡ file)
   here_row file e = let r = one_of (λ x. x.file == file) ((view t).opens_of_handle caller.sid handle) e in (r.0, r.1, eqb-true r.0.file file r.2)
 
-  here_met : (file : ℕ) → here file ≡ true → IsIn (file_key setup file) files
+  pub here_met : (file : ℕ) → here file ≡ true → IsIn (file_key setup file) files
   here_met file e = let r = here_row file e in subst (λ f. IsIn (file_key setup f) files) r.2 (file_met r.0 r.1)
 
   written : (file : ℕ) → here file ≡ true → (among (share_place setup file) handle_places ≡ true) × (among (ranges_place setup file) handle_places ≡ true)
@@ -133,6 +134,12 @@ module _ (setup : Setup) (n : ℕ) (k : Chains) (t : Table) (stands : StandsFor 
     module _ (h : IsContained setup handle_places s here t (decide setup (view behind) caller call)) where
       pub handle_contained : Contained setup handle_places s t (perform_all (outcome setup (view t) caller call).changes t)
       handle_contained = call_contained setup handle_places s here t caller call written names settled looked_at h
+
+      pub handle_touches : list_all (touches here) (outcome setup (view t) caller call).changes ≡ true
+      handle_touches = call_touches setup handle_places s here t caller call written names settled looked_at h
+
+      pub handle_adds_none : list_all adds_no_open (decide setup (view behind) caller call).changes ≡ true → list_all adds_no_open (outcome setup (view t) caller call).changes ≡ true
+      handle_adds_none none = call_adds_none setup handle_places s here t caller call written names settled looked_at h none
 
       pub handle_opens : list_all adds_no_open (decide setup (view behind) caller call).changes ≡ true → (o : OpenRow) → IsIn o (perform_all (outcome setup (view t) caller call).changes t).opens → IsIn o t.opens
       handle_opens none o i = call_opens setup handle_places s here t caller call written names settled looked_at h none o i

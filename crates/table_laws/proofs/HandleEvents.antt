@@ -134,7 +134,7 @@ module _ (setup : Setup) (n : ℕ) (k : Chains) (t : Table) (stands : StandsFor 
   own : (row : OpenRow) → IsIn row ((view t).opens_of_handle caller.sid handle) → here setup n k t stands fine settled caller info pid handle row.file ≡ true
   own row i = own_file setup n k t stands fine settled caller info pid handle row i
 
-  close_contained : (os : List OpenRow) → Within os → HereContained (close_first os)
+  pub close_contained : (os : List OpenRow) → Within os → HereContained (close_first os)
   close_contained [] w = replies FileClosed
   close_contained (row ∷ os) w =
       let i = w row (inl refl) in
@@ -142,7 +142,7 @@ module _ (setup : Setup) (n : ℕ) (k : Chains) (t : Table) (stands : StandsFor 
       (record { touched = and_from _ _ (own row i) (and_from _ _ (own row i) refl); reached = refl; none_waits = refl; posts = λ post j. absurd j; spots = spots_met setup n k t stands fine settled caller info pid handle row i; waits = tt })
       (record { touched = and_from _ _ (own row i) refl; reached = refl; none_waits = refl; posts = λ post j. absurd j; spots = spots_met setup n k t stands fine settled caller info pid handle row i; waits = tt })
 
-  delete_contained : (on : Bool) (os : List OpenRow) → Within os → HereContained (delete_first on os)
+  pub delete_contained : (on : Bool) (os : List OpenRow) → Within os → HereContained (delete_first on os)
   delete_contained on [] w = replies FileClosed
   delete_contained on (row ∷ os) w =
       let i = w row (inl refl) in
@@ -150,7 +150,7 @@ module _ (setup : Setup) (n : ℕ) (k : Chains) (t : Table) (stands : StandsFor 
       (record { touched = and_from _ _ (own row i) refl; reached = refl; none_waits = refl; posts = λ post j. absurd j; spots = λ spot j. absurd j; waits = tt })
       (record { touched = and_from _ _ (own row i) refl; reached = refl; none_waits = refl; posts = λ post j. absurd j; spots = λ spot j. absurd j; waits = tt })
 
-  unlock_contained : (v : View) (span : Span) (os : List OpenRow) → Within os → HereContained (unlock_first v span os)
+  pub unlock_contained : (v : View) (span : Span) (os : List OpenRow) → Within os → HereContained (unlock_first v span os)
   unlock_contained v span [] w = replies FileClosed
   unlock_contained v span (row ∷ os) w =
       let i = w row (inl refl) in
@@ -158,7 +158,7 @@ module _ (setup : Setup) (n : ℕ) (k : Chains) (t : Table) (stands : StandsFor 
       (λ mode. record { touched = and_from _ _ (own row i) refl; reached = refl; none_waits = refl; posts = λ post j. absurd j; spots = spots_met setup n k t stands fine settled caller info pid handle row i; waits = tt })
       (replies RangeNotLocked)
 
-  read_contained : (v : View) (span : Span) (os : List OpenRow) → HereContained (read_first v span os)
+  pub read_contained : (v : View) (span : Span) (os : List OpenRow) → HereContained (read_first v span os)
   read_contained v span [] = replies FileClosed
   read_contained v span (row ∷ os) =
       let f = file_view row.file v in
@@ -169,19 +169,19 @@ module _ (setup : Setup) (n : ℕ) (k : Chains) (t : Table) (stands : StandsFor 
 
 -- ---- what they add
 
-no_open_closed : (os : List OpenRow) → list_all adds_no_open (close_first os).changes ≡ true
+pub no_open_closed : (os : List OpenRow) → list_all adds_no_open (close_first os).changes ≡ true
 no_open_closed [] = refl
 no_open_closed (row ∷ os) = of_close (λ d. list_all adds_no_open d.changes ≡ true) row refl refl
 
-no_open_deleted : (on : Bool) (os : List OpenRow) → list_all adds_no_open (delete_first on os).changes ≡ true
+pub no_open_deleted : (on : Bool) (os : List OpenRow) → list_all adds_no_open (delete_first on os).changes ≡ true
 no_open_deleted on [] = refl
 no_open_deleted on (row ∷ os) = of_delete (λ d. list_all adds_no_open d.changes ≡ true) on row refl refl refl
 
-no_open_unlocked : (v : View) (span : Span) (os : List OpenRow) → list_all adds_no_open (unlock_first v span os).changes ≡ true
+pub no_open_unlocked : (v : View) (span : Span) (os : List OpenRow) → list_all adds_no_open (unlock_first v span os).changes ≡ true
 no_open_unlocked v span [] = refl
 no_open_unlocked v span (row ∷ os) = by_ranges (λ d. list_all adds_no_open d.changes ≡ true) (file_view row.file v) span row (λ mode. refl) refl
 
-no_open_read : (v : View) (span : Span) (os : List OpenRow) → list_all adds_no_open (read_first v span os).changes ≡ true
+pub no_open_read : (v : View) (span : Span) (os : List OpenRow) → list_all adds_no_open (read_first v span os).changes ≡ true
 no_open_read v span [] = refl
 no_open_read v span (row ∷ os) =
     let P : Decision → Type 0 = λ d. list_all adds_no_open d.changes ≡ true in

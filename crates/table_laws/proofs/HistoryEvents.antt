@@ -55,7 +55,7 @@ use Rattle.table_laws.proofs.ReconnectEvents.{reconnect_stands}
 
 -- ---- the beginning of a legal history
 
-grouped : {X : Type 0} (xs ys zs : List X) → (xs ++ ys) ++ zs ≡ xs ++ (ys ++ zs)
+pub grouped : {X : Type 0} (xs ys zs : List X) → (xs ++ ys) ++ zs ≡ xs ++ (ys ++ zs)
 grouped [] ys zs = refl
 grouped (x ∷ xs) ys zs = ap (λ l. x ∷ l) (grouped xs ys zs)
 
@@ -63,7 +63,7 @@ legal_first : (setup : Setup) (t : Table) (first later : List Entry) → AreLega
 legal_first setup t [] later legal = tt
 legal_first setup t (e ∷ first) later legal = (legal.0, legal_first setup (after_entry setup t e) first later legal.1)
 
-legal_begin : (setup : Setup) (first later : List Entry) → IsLegal setup (first ++ later) → IsLegal setup first
+pub legal_begin : (setup : Setup) (first later : List Entry) → IsLegal setup (first ++ later) → IsLegal setup first
 legal_begin setup first later legal = record {
   entries = legal_first setup (start setup) first later legal.entries;
   counted = λ by. counts_before 1 (seqs_of by first) (seqs_of by later) (subst (CountsFrom 1) (flat_joined (own_seq by) first later) (legal.counted by));
@@ -75,7 +75,7 @@ legal_begin setup first later legal = record {
 module _ (setup : Setup) (n : ℕ) (Q : List Entry → List Entry → Chains → Type 0)
     (step : (done : List Entry) (e : Entry) (rest : List Entry) (k : Chains) → IsLegal setup (done ++ e ∷ rest) → Q done (e ∷ rest) k
     → Q (done ++ e ∷ []) rest (move setup n k e (view (after setup (done ++ e ∷ []))))) where
-  carried : (done todo rest : List Entry) (k : Chains) → IsLegal setup (done ++ (todo ++ rest)) → Q done (todo ++ rest) k → Q (done ++ todo) rest (moved_from setup n k (after setup done) todo)
+  pub carried : (done todo rest : List Entry) (k : Chains) → IsLegal setup (done ++ (todo ++ rest)) → Q done (todo ++ rest) k → Q (done ++ todo) rest (moved_from setup n k (after setup done) todo)
   carried done [] rest k legal q = subst (λ d. Q d rest k) (sym (append_nothing done)) q
   carried done (e ∷ todo) rest k legal q =
       let is : after setup (done ++ e ∷ []) ≡ after_entry setup (after setup done) e = after_all-append setup (start setup) done e in
@@ -96,10 +96,10 @@ pub record Names (setup : Setup) (n : ℕ) (done rest : List Entry) (k : Chains)
 
 module _ (setup : Setup) (n : ℕ) (is : IsSetup setup) where
   -- reached, with numbers that are no lower than before
-  abbrev IsHigher : (ℕ → ℕ) → (ℕ → ℕ) → Table → Type 0
+  abbrev pub IsHigher : (ℕ → ℕ) → (ℕ → ℕ) → Table → Type 0
   IsHigher low high t = IsReached high t × ((pid : ℕ) → low pid ≤ high pid)
 
-  higher_calls : (low : ℕ → ℕ) → KeptByCalls setup (IsHigher low)
+  pub higher_calls : (low : ℕ → ℕ) → KeptByCalls setup (IsHigher low)
   higher_calls low high t by number moment call caller p legal of above = (
     calls_reach setup high t by number moment call caller p.0 legal of above,
     λ pid. let a : low pid ≤ high pid = p.1 pid in let b = raised_more high caller.sid.pid number above pid in omega (arith, a, b),

@@ -23,6 +23,12 @@ counted_at low (suc n) (suc i) h =
     let same : suc low + i ≡ low + suc i = omega arith in
     inr (subst (λ x. IsIn x (count_from (suc low) n)) same (counted_at (suc low) n i (omega (arith, h))))
 
+-- the chain of a key is one of its database
+pub own_chain_in : (n : ℕ) (d : Db) (key : List ℕ) → 1 ≤ n → IsIn (chain_of n (place d key)) (chains_in n d)
+own_chain_in n d key some =
+    let low : key_hash key % n < n = mod-lt (key_hash key) (omega (arith, some)) in
+    counted_at ((db_number d - 1) * n) n (key_hash key % n) low
+
 module _ (n : ℕ) (k : Chains) (d : Db) (key : List ℕ) where
   some_key : is_some (value_at n k (place d key)) ≡ true → IsIn key (keys_at k (chain_of n (place d key)))
   some_key e =
@@ -31,8 +37,7 @@ module _ (n : ℕ) (k : Chains) (d : Db) (key : List ℕ) where
 
   key_there : 1 ≤ n → is_some (value_at n k (place d key)) ≡ true → IsIn key (all_keys n k d)
   key_there some e =
-      let low : key_hash key % n < n = mod-lt (key_hash key) (omega (arith, some)) in
-      flat_mapped_in (keys_at k) (chains_in n d) (chain_of n (place d key)) key (counted_at ((db_number d - 1) * n) n (key_hash key % n) low) (some_key e)
+      flat_mapped_in (keys_at k) (chains_in n d) (chain_of n (place d key)) key (own_chain_in n d key some) (some_key e)
 
   some_value : {A : Type 0} (c : Codec (ℕ × A)) (o : Option (List ℕ)) (r : A) → decoded c o ≡ Some r → is_some o ≡ true
   some_value c None r e = absurd cc

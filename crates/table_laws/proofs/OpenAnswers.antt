@@ -66,19 +66,19 @@ use Rattle.table_laws.proofs.AckAnswers.{open_under, leases_same}
 
 -- ---- what is left of a lease that has expired
 
-file_faded : (rows : List LeaseRow) (y : LeaseRow) → (faded rows y).file ≡ y.file
+pub file_faded : (rows : List LeaseRow) (y : LeaseRow) → (faded rows y).file ≡ y.file
 file_faded [] y = refl
 file_faded (l ∷ ls) y = file_faded ls (Rattle.serial_table.specs.Change.set_lease l.file l.name (Rattle.serial_table.specs.Expire.needed_of l) None y) ∙ file-set_lease l.file l.name (Rattle.serial_table.specs.Expire.needed_of l) None y
 
 -- it takes what is needed where none of its opens is connected
-abbrev taken : Bool → LeaseRow → LeaseRow
+abbrev pub taken : Bool → LeaseRow → LeaseRow
 taken connected l = cond connected l (broken_to_needed l l.breaking)
 
 -- it stays where one of its opens is connected, or it has HANDLE
-abbrev is_left_with : (Sid → Bool) → LeaseRow → List LeaseRef → Bool
+abbrev pub is_left_with : (Sid → Bool) → LeaseRow → List LeaseRef → Bool
 is_left_with alive l refs = list_any (λ ref. alive ref.owner || has (taken (list_any (λ (r : LeaseRef). alive r.owner) refs) l).held.0 2) refs
 
-left_same : (a b : Sid → Bool) (l : LeaseRow) (refs : List LeaseRef) → AllByRecursion (λ (ref : LeaseRef). a ref.owner ≡ b ref.owner) refs → is_left_with a l refs ≡ is_left_with b l refs
+pub left_same : (a b : Sid → Bool) (l : LeaseRow) (refs : List LeaseRef) → AllByRecursion (λ (ref : LeaseRef). a ref.owner ≡ b ref.owner) refs → is_left_with a l refs ≡ is_left_with b l refs
 left_same a b l refs all =
     let any = any_alike (λ (r : LeaseRef). a r.owner) (λ (r : LeaseRef). b r.owner) refs all in
     any_alike (λ ref. a ref.owner || has (taken (list_any (λ (r : LeaseRef). a r.owner) refs) l).held.0 2) (λ ref. b ref.owner || has (taken (list_any (λ (r : LeaseRef). b r.owner) refs) l).held.0 2) refs
@@ -101,11 +101,11 @@ module _ (t : Table) (rows : List LeaseRow) where
       λ name. ap (filter (λ (l : LeaseRow). l.file == file)) (mid_leases name) ∙ filter-map (λ (l : LeaseRow). l.file == file) (faded rows) (λ y. ap (λ g. g == file) (file_faded rows y)) (v.leases_of name) in
       λ i. record (file_view file v) { leases = λ name. e name i }
 
-  file_settled : (file : ℕ) → file_view file (view (settle (expired rows t))) ≡ settle_file (record (file_view file v) { leases = λ name. map (faded rows) ((file_view file v).leases name) })
+  pub file_settled : (file : ℕ) → file_view file (view (settle (expired rows t))) ≡ settle_file (record (file_view file v) { leases = λ name. map (faded rows) ((file_view file v).leases name) })
   file_settled file = file_view-perform file c.Settle (expired rows t) refl ∙ ap settle_file (file_expired file)
 
   -- the leases of a name then
-  settled_leases : (name : LeaseName) → (view (settle (expired rows t))).leases_of name ≡ filter (lease_stays (λ file. true) mid) (map (lease_settles (λ file. true) mid) (map (faded rows) (v.leases_of name)))
+  pub settled_leases : (name : LeaseName) → (view (settle (expired rows t))).leases_of name ≡ filter (lease_stays (λ file. true) mid) (map (lease_settles (λ file. true) mid) (map (faded rows) (v.leases_of name)))
   unfolding settle_by_key
   settled_leases name =
       ap (λ (x : View). x.leases_of name) (view-perform c.Settle (expired rows t))
@@ -140,10 +140,10 @@ module _ (t : Table) (rows : List LeaseRow) where
         ∙ sym (any_mapped (λ (ref : LeaseRef). lives v ref.owner) ref_of (opens_under v name l.file))
 
     -- HANDLE of the lease once it has settled
-    abbrev hh : Bool
+    abbrev pub hh : Bool
     hh = has (taken (list_any (λ (ref : LeaseRef). lives (view t) ref.owner) refs) (faded rows l)).held.0 2
 
-    settled_is : settled_lease (file_view l.file mid) k ≡ taken (list_any (λ (ref : LeaseRef). lives (view t) ref.owner) refs) k
+    pub settled_is : settled_lease (file_view l.file mid) k ≡ taken (list_any (λ (ref : LeaseRef). lives (view t) ref.owner) refs) k
     settled_is =
         ap (λ n. cond (list_any (λ o. is_under n o && o.connected) (file_view l.file mid).opens) k (broken_to_needed k k.breaking)) k_name
         ∙ ap (λ b. taken b k) connected_any
@@ -163,7 +163,7 @@ module _ (t : Table) (rows : List LeaseRow) where
         ∙ not_lacking (has (settled_lease (file_view l.file mid) k).held.0 2)
         ∙ ap (λ (x : LeaseRow). has x.held.0 2) settled_is
 
-    keeps_under : (o : FileOpen) → (is_under name o && keeps_open (file_view l.file mid) o) ≡ (is_under name o && (o.connected || hh))
+    pub keeps_under : (o : FileOpen) → (is_under name o && keeps_open (file_view l.file mid) o) ≡ (is_under name o && (o.connected || hh))
     keeps_under o = by o.row.lease
       where
         named : (own : LeaseName) (b : Bool) → same_name own name ≡ b
@@ -178,7 +178,7 @@ module _ (t : Table) (rows : List LeaseRow) where
         by None = refl
         by (Some own) = named own (same_name own name) refl
 
-    stays_is : lease_stays (λ file. true) mid (lease_settles (λ file. true) mid k) ≡ is_left_with (lives (view t)) (faded rows l) refs
+    pub stays_is : lease_stays (λ file. true) mid (lease_settles (λ file. true) mid k) ≡ is_left_with (lives (view t)) (faded rows l) refs
     stays_is =
         let f = file_view k.file mid in
         let settled = settled_lease f k in
@@ -345,18 +345,29 @@ module _ (setup : Setup) (n by seq number : ℕ) (moment : Moment) (file : ℕ) 
             subst (SameLease s z) it
             (asked_lease_same setup n k j (open_key info.pid number ∷ []) [] (file_key setup file ∷ []) names (pid_key info.pid ∷ []) same declared (subst (λ o. IsIn (name_key declared) (asked_name info o)) (sym e) (inl refl)))
 
-    open_decided : open_file (view (behind_open setup caller file access share lease durable overwrite delete t)) caller (asked_of caller file access share lease durable overwrite delete)
-        ≡ open_file (view (behind_open setup caller file access share lease durable overwrite delete u)) caller (asked_of caller file access share lease durable overwrite delete)
-    open_decided =
-        open_same setup caller file access share lease durable overwrite delete t u fine.sound fine_other.sound settled settled_other
-        (sym (file_tells setup s t stands.agree fine.sets fine.sound file)
+    file_shown : file_view file (view t) ≡ file_view file (view u)
+    file_shown =
+        sym (file_tells setup s t stands.agree fine.sets fine.sound file)
         ∙ shown_same s z file (file_same setup n k j (open_key info.pid number ∷ []) [] (file_key setup file ∷ []) names (pid_key info.pid ∷ []) same file (inl refl))
-        ∙ file_tells setup z u stands_other.agree fine_other.sets fine_other.sound file)
-        (λ name i. leases_same setup s z t u stands.agree stands_other.agree fine.sound fine_other.sound name (asked_lease name i))
-        (λ name i l is other. (
-          refs_same setup s z t u stands.agree stands_other.agree fine fine_other name (asked_lease name i) l is other,
-          owners_live_same setup s z t u stands.agree stands_other.agree fine fine_other name (asked_lease name i) l is other,
-        ))
+        ∙ file_tells setup z u stands_other.agree fine_other.sets fine_other.sound file
+
+    asked_leases : (name : LeaseName) → IsIn name (asked_names caller lease) → (view t).leases_of name ≡ (view u).leases_of name
+    asked_leases name i = leases_same setup s z t u stands.agree stands_other.agree fine.sound fine_other.sound name (asked_lease name i)
+
+    asked_refs : (name : LeaseName) → IsIn name (asked_names caller lease) → (l : LeaseRow) → (view t).leases_of name ≡ l ∷ [] → (view u).leases_of name ≡ l ∷ []
+        → (map ref_of (opens_under (view t) name l.file) ≡ map ref_of (opens_under (view u) name l.file)) × AllByRecursion (λ (ref : LeaseRef). lives (view t) ref.owner ≡ lives (view u) ref.owner) (map ref_of (opens_under (view t) name l.file))
+    asked_refs name i l is other = (
+      refs_same setup s z t u stands.agree stands_other.agree fine fine_other name (asked_lease name i) l is other,
+      owners_live_same setup s z t u stands.agree stands_other.agree fine fine_other name (asked_lease name i) l is other,
+    )
+
+    -- the leases that expire before it
+    pub due_alike : due (view t) caller.moment (look setup (view t) caller opening) ≡ due (view u) caller.moment (look setup (view u) caller opening)
+    due_alike = rows_same setup caller file access share lease durable overwrite delete t u fine.sound fine_other.sound settled settled_other file_shown asked_leases asked_refs
+
+    pub open_decided : open_file (view (behind_open setup caller file access share lease durable overwrite delete t)) caller (asked_of caller file access share lease durable overwrite delete)
+        ≡ open_file (view (behind_open setup caller file access share lease durable overwrite delete u)) caller (asked_of caller file access share lease durable overwrite delete)
+    open_decided = open_same setup caller file access share lease durable overwrite delete t u fine.sound fine_other.sound settled settled_other file_shown asked_leases asked_refs
 
   pub open_legal : IsLegalByFootprint setup n (call_entry by seq number moment opening reply)
   open_legal =

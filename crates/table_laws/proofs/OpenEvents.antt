@@ -94,25 +94,25 @@ use Rattle.table_laws.proofs.LockEvents.{after_own_waits}
 -- ---- what it can decide
 
 -- the file once HANDLE is broken, the breaks of both steps, and the file as they leave it
-abbrev first_broken : FileView → Asked → FileView
+abbrev pub first_broken : FileView → Asked → FileView
 first_broken f asked = perform_all_in_file (handle_breaks f asked).changes f
 
-abbrev all_breaks : FileView → Asked → Breaks
+abbrev pub all_breaks : FileView → Asked → Breaks
 all_breaks f asked = both (handle_breaks f asked) (other_breaks (first_broken f asked) asked)
 
-abbrev all_broken : FileView → Asked → FileView
+abbrev pub all_broken : FileView → Asked → FileView
 all_broken f asked = perform_all_in_file (all_breaks f asked).changes f
 
 -- what holds of each decision of `open`
-record HoldsOfEach (P : Decision → Type 0) (f : FileView) (caller : Caller) (asked : Asked) : Type 0 where
-  denied : P (only_reply AccessDenied)
-  wrong : P (only_reply InvalidParameter)
-  going : P (only_reply DeletePending)
-  refused : P (only_reply SharingViolation)
-  waits_first : (blocker : Sid) → (handle_breaks f asked).blocker ≡ Some blocker → P (wait_for_open caller asked (handle_breaks f asked) blocker)
-  waits : (blocker : Sid) → (all_breaks f asked).blocker ≡ Some blocker → P (wait_for_open caller asked (all_breaks f asked) blocker)
-  plain : P (grant_plain caller asked (all_breaks f asked))
-  under : (name : LeaseName) → P (grant_under caller asked (all_breaks f asked) (grant_lease (all_broken f asked) asked name) (is_durable asked (grant_lease (all_broken f asked) asked name)))
+pub record HoldsOfEach (P : Decision → Type 0) (f : FileView) (caller : Caller) (asked : Asked) : Type 0 where
+  pub denied : P (only_reply AccessDenied)
+  pub wrong : P (only_reply InvalidParameter)
+  pub going : P (only_reply DeletePending)
+  pub refused : P (only_reply SharingViolation)
+  pub waits_first : (blocker : Sid) → (handle_breaks f asked).blocker ≡ Some blocker → P (wait_for_open caller asked (handle_breaks f asked) blocker)
+  pub waits : (blocker : Sid) → (all_breaks f asked).blocker ≡ Some blocker → P (wait_for_open caller asked (all_breaks f asked) blocker)
+  pub plain : P (grant_plain caller asked (all_breaks f asked))
+  pub under : (name : LeaseName) → P (grant_under caller asked (all_breaks f asked) (grant_lease (all_broken f asked) asked name) (is_durable asked (grant_lease (all_broken f asked) asked name)))
 
 module _ (P : Decision → Type 0) (elsewhere : Bool) (f : FileView) (caller : Caller) (asked : Asked) (h : HoldsOfEach P f caller asked) where
   of_grant : P (grant (all_broken f asked) caller asked (all_breaks f asked))
@@ -131,7 +131,7 @@ module _ (P : Decision → Type 0) (elsewhere : Bool) (f : FileView) (caller : C
   of_first (Some blocker) first = h.waits_first blocker first
   of_first None first = of_later first (other_breaks (first_broken f asked) asked).blocker refl
 
-  of_open : P (open_by elsewhere f caller asked)
+  pub of_open : P (open_by elsewhere f caller asked)
   unfolding open_by
   of_open =
       cond_both (deletes_without_right asked) (only_reply AccessDenied) _ P (λ _. h.denied)
@@ -142,15 +142,15 @@ module _ (P : Decision → Type 0) (elsewhere : Bool) (f : FileView) (caller : C
 
 -- ---- the open that it makes
 
-abbrev is_grant : Reply → Bool
+abbrev pub is_grant : Reply → Bool
 is_grant (Granted state stays) = true
 is_grant _ = false
 
-abbrev is_own_open : ℕ → ℕ → ℕ → OpenRow → Bool
+abbrev pub is_own_open : ℕ → ℕ → ℕ → OpenRow → Bool
 is_own_open pid number file o = same_id o.id (record { pid = pid; call = number }) && ((o.owner.pid == pid) && ((o.handle == number) && (o.file == file)))
 
 -- no open comes but such, where one is granted
-abbrev adds_only : Bool → (OpenRow → Bool) → Change → Bool
+abbrev pub adds_only : Bool → (OpenRow → Bool) → Change → Bool
 adds_only granted own (c.AddOpen row) = granted && own row
 adds_only granted own _ = true
 
@@ -158,11 +158,11 @@ adds_none : (granted : Bool) (own : OpenRow → Bool) (change : Change) → adds
 adds_none granted own (c.AddOpen row) e = absurd cc
 adds_none granted own _ e = refl
 
-all_add_none : (granted : Bool) (own : OpenRow → Bool) (cs : List Change) → list_all adds_no_open cs ≡ true → list_all (adds_only granted own) cs ≡ true
+pub all_add_none : (granted : Bool) (own : OpenRow → Bool) (cs : List Change) → list_all adds_no_open cs ≡ true → list_all (adds_only granted own) cs ≡ true
 all_add_none granted own [] e = refl
 all_add_none granted own (change ∷ cs) e = let p = and_parts (adds_no_open change) (list_all adds_no_open cs) e in and_from _ _ (adds_none granted own change p.0) (all_add_none granted own cs p.1)
 
-own_open : (pid number file : ℕ) (o : OpenRow) → is_own_open pid number file o ≡ true → IsOwnOpen pid number file o
+pub own_open : (pid number file : ℕ) (o : OpenRow) → is_own_open pid number file o ≡ true → IsOwnOpen pid number file o
 own_open pid number file o e =
     let a = and_parts (same_id o.id (record { pid = pid; call = number })) _ e in
     let b = and_parts (o.owner.pid == pid) _ a.1 in
@@ -449,7 +449,7 @@ module _ (setup : Setup) (n : ℕ) (k : Chains) (t : Table) (stands : StandsFor 
     abbrev pub end : Table
     end = perform_all (conclude (view behind) (decide setup (view behind) caller which)).changes behind
 
-    module _ (fresh : IsUnwatched setup n k caller.sid caller.number) (sound_after : IsSound end) where
+    module _ (fresh : IsUnwatched setup n k caller.sid caller.number) where
       are_contained : AreContained setup open_places s here (conclude (view behind) (decide setup (view behind) caller which)).changes
       are_contained = concluded setup open_places s here t behind watch_was (decide setup (view behind) caller which) (open_inside fresh).0
 
@@ -458,8 +458,8 @@ module _ (setup : Setup) (n : ℕ) (k : Chains) (t : Table) (stands : StandsFor 
           contained setup open_places s here behind (conclude (view behind) (decide setup (view behind) caller which)).changes written (λ o i e. met_names o (behind_fades.opens o i) e) behind_settled
           are_contained.touched are_contained.reached are_contained.new
 
-      pub open_lessens : Lessened setup open_places s t end
-      open_lessens = lessened_behind setup open_places s t behind end behind_fades (λ sid e. ap (λ ws. lives_among ws sid) (sym later_contained.workers) ∙ e) (lessened setup open_places s behind end behind_sound sound_after later_contained)
+      pub open_lessens : IsSound end → Lessened setup open_places s t end
+      open_lessens sound_after = lessened_behind setup open_places s t behind end behind_fades (λ sid e. ap (λ ws. lives_among ws sid) (sym later_contained.workers) ∙ e) (lessened setup open_places s behind end behind_sound sound_after later_contained)
 
       -- an open is an old one, or the call's own where it is granted
       pub opens_then : (o : OpenRow) → IsIn o end.opens → IsIn o t.opens ⊎ ((is_grant (decide setup (view behind) caller which).reply && is_own_open info.pid number file o) ≡ true)
@@ -573,7 +573,7 @@ module _ (setup : Setup) (n : ℕ) (is : IsSetup setup) (before : List Entry) (b
           let first = added_for (open_key of.info.pid number) ((view u).opens_of_id (record { pid = of.info.pid; call = number })) in
           let all = open_records setup ps (records_of setup n k) t u of.info.pid number file (record { agree = stands.agree; sound = fine.sound; sets = fine.sets }) small_pid small_number
           (own_record_met setup n k t stands fine settled caller of.info of.pid of.guid_is number of.number_is file lease) (new_above of.info.pid number t (subst (λ p. AreBelow number p t) of.pid (call_is_new setup before [] by seq number moment opening reply caller is legal from))) (is_grant (decide setup (view b) caller opening).reply)
-          (opens_then setup n k t stands fine settled caller of.info of.pid of.guid_is number of.number_is file lease access share durable overwrite delete fresh fine_after.sound) g in
+          (opens_then setup n k t stands fine settled caller of.info of.pid of.guid_is number of.number_is file lease access share durable overwrite delete fresh) g in
           subst (λ qs. AllByRecursion (HasOpenRecords (moved setup qs (added setup (view u) open_entry) (view u) (records_of setup n k))) ((view u).opens_of g)) (sym writes)
           (subst (λ a. AllByRecursion (HasOpenRecords (moved setup ps a (view u) (records_of setup n k))) ((view u).opens_of g))
           (ap (λ r. cond (is_grant r) first None) reply_is ∙ sym (added_is (view u) of.info of.declared reply)) all)

@@ -99,7 +99,7 @@ module _ (setup : Setup) (n by seq number : ℕ) (moment : Moment) (reply : Repl
   -- ---- `status`, which meets all register records
 
   -- that of a living worker is there
-  register_there : (k : Chains) (t : Table) (pid session : ℕ) → StandsFor setup n k (view t) → lives (view t) (record { pid = pid; session = session }) ≡ true → IsIn (pid_key pid) (all_keys n k db.Register)
+  pub register_there : (k : Chains) (t : Table) (pid session : ℕ) → StandsFor setup n k (view t) → lives (view t) (record { pid = pid; session = session }) ≡ true → IsIn (pid_key pid) (all_keys n k db.Register)
   register_there k t pid session stands alive = there ((records_of setup n k).register pid) refl
     where
       dead : (o : Option WorkerRow) → option_map told_row o ≡ None → option_map_or (λ (row : WorkerRow). row.alive && (row.session == session)) o false ≡ true → ⊥
@@ -171,24 +171,24 @@ module _ (setup : Setup) (n by seq number : ℕ) (moment : Moment) (reply : Repl
 -- ---- global locks: by the lock's record
 
 -- a row that a hold tells of this lock
-abbrev hold_row : ℕ → Hold → HoldRow
+abbrev pub hold_row : ℕ → Hold → HoldRow
 hold_row key hold = record { owner = hold.sid; key = key; mode = hold.mode }
 
 holds_back : (key : ℕ) (rows : List HoldRow) → ((h : HoldRow) → IsIn h rows → h.key ≡ key) → map (hold_row key) (map hold_of rows) ≡ rows
 holds_back key [] h = refl
 holds_back key (row ∷ rows) h = λ i. (record { owner = row.owner; key = sym (h row (inl refl)) i; mode = row.mode }) ∷ holds_back key rows (λ x j. h x (inr j)) i
 
-watches_back : (ws : List Watch) → map watch_row (map watch_of ws) ≡ ws
+pub watches_back : (ws : List Watch) → map watch_row (map watch_of ws) ≡ ws
 watches_back [] = refl
 watches_back (w ∷ ws) = ap (λ xs. w ∷ xs) (watches_back ws)
 
-holds_told : (t : Table) (key : ℕ) → map (hold_row key) (part_of (λ (r : GLockRec). r.holds) (exact_lock (view t) key)) ≡ (view t).holds_of key
+pub holds_told : (t : Table) (key : ℕ) → map (hold_row key) (part_of (λ (r : GLockRec). r.holds) (exact_lock (view t) key)) ≡ (view t).holds_of key
 holds_told t key =
     ap (map (hold_row key)) (part_first (λ (r : GLockRec). r.holds) (map hold_of ((view t).holds_of key)) (map watch_of ((view t).watches_on (LockOf key)))
     (record { holds = map hold_of ((view t).holds_of key); watchers = map watch_of ((view t).watches_on (LockOf key)) }) refl)
     ∙ holds_back key ((view t).holds_of key) (λ h i. eqb-true h.key key (in_filter (is_hold_of key) t.holds h i).1)
 
-watches_told : (t : Table) (key : ℕ) → map watch_row (part_of (λ (r : GLockRec). r.watchers) (exact_lock (view t) key)) ≡ (view t).watches_on (LockOf key)
+pub watches_told : (t : Table) (key : ℕ) → map watch_row (part_of (λ (r : GLockRec). r.watchers) (exact_lock (view t) key)) ≡ (view t).watches_on (LockOf key)
 watches_told t key =
     ap (map watch_row) (part_second (λ (r : GLockRec). r.watchers) (map hold_of ((view t).holds_of key)) (map watch_of ((view t).watches_on (LockOf key)))
     (record { holds = map hold_of ((view t).holds_of key); watchers = map watch_of ((view t).watches_on (LockOf key)) }) refl)
@@ -210,7 +210,7 @@ module _ (v w : View) (caller : Caller) (key : ℕ) (holds : v.holds_of key ≡ 
   changed_same wait Exclusive Shared = refl
   changed_same wait Shared Exclusive = raised_same wait (other_holds v caller key) ∙ ap (raise w caller key wait) others_same
 
-  locked_by : (mode : Mode) (wait : Bool) (rows : List HoldRow) → glock_by v caller key mode wait rows ≡ glock_by w caller key mode wait rows
+  pub locked_by : (mode : Mode) (wait : Bool) (rows : List HoldRow) → glock_by v caller key mode wait rows ≡ glock_by w caller key mode wait rows
   locked_by mode wait [] = ap (λ rows. gain_hold caller key mode wait (filter (keeps_out mode) rows)) others_same
   locked_by mode wait (own ∷ others) = changed_same wait own.mode mode
 
@@ -224,13 +224,13 @@ module _ (v w : View) (caller : Caller) (key : ℕ) (holds : v.holds_of key ≡ 
   gunlock_same = ap (λ rows. (gunlock_by caller key (filter (λ (hold : HoldRow). same_sid hold.owner caller.sid) rows)).reply) holds
 
 module _ (setup : Setup) (n : ℕ) (k j : Chains) (key : ℕ) (same : SameLockRecord (records_of setup n k) (records_of setup n j) key) (t u : Table) (stands : StandsFor setup n k (view t)) (stands_other : StandsFor setup n j (view u)) where
-  exact_same : exact_lock (view t) key ≡ exact_lock (view u) key
+  pub exact_same : exact_lock (view t) key ≡ exact_lock (view u) key
   exact_same = sym (stands.agree.locks key) ∙ clean_lock_same (records_of setup n k) (records_of setup n j) key same ∙ stands_other.agree.locks key
 
-  lock_holds_same : (view t).holds_of key ≡ (view u).holds_of key
+  pub lock_holds_same : (view t).holds_of key ≡ (view u).holds_of key
   lock_holds_same = sym (holds_told t key) ∙ ap (λ o. map (hold_row key) (part_of (λ (r : GLockRec). r.holds) o)) exact_same ∙ holds_told u key
 
-  lock_watches_same : (view t).watches_on (LockOf key) ≡ (view u).watches_on (LockOf key)
+  pub lock_watches_same : (view t).watches_on (LockOf key) ≡ (view u).watches_on (LockOf key)
   lock_watches_same = sym (watches_told t key) ∙ ap (λ o. map watch_row (part_of (λ (r : GLockRec). r.watchers) o)) exact_same ∙ watches_told u key
 
 module _ (setup : Setup) (n by seq number : ℕ) (moment : Moment) (key : ℕ) (reply : Reply) where

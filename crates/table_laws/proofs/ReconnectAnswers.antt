@@ -61,7 +61,7 @@ use Rattle.table_laws.proofs.Meets.{flat_mapped_in, entry_recorded}
 use Rattle.table_laws.proofs.Showing.{lives_same, shown_same}
 use Rattle.table_laws.proofs.Footprints.{own_open_same, own_register_same, owner_same, file_same}
 use Rattle.table_laws.proofs.Touching.{touches}
-use Rattle.table_laws.proofs.SameFiles.{AreOfFile, behind_of_file, view_behind_same, rows_behind_same}
+use Rattle.table_laws.proofs.SameFiles.{AreOfFile, behind_of_file, view_behind_same, rows_same}
 use Rattle.table_laws.proofs.Answering.{IsAnsweredAlike, legal_if}
 use Rattle.table_laws.proofs.PlainAnswers.{at_met, by_declared}
 
@@ -71,7 +71,7 @@ abbrev ends : RegisterRec → List ℕ
 ends r = r.ended
 
 -- the ended sessions of a pid, by their moments: they are numbered
-rebuilt : ℕ → ℕ → List ℕ → List EndedRow
+pub rebuilt : ℕ → ℕ → List ℕ → List EndedRow
 rebuilt pid n [] = []
 rebuilt pid n (m ∷ ms) = record { sid = record { pid = pid; session = n }; moment = record { 0 = m } } ∷ rebuilt pid (n + 1) ms
 
@@ -105,7 +105,7 @@ has_worker t sound o i = by ((view t).worker_of o.owner.pid) (each (λ (x : Open
     by None e = absurd cc
     by (Some worker) e = refl
 
-ended_of_pid : (setup : Setup) (t : Table) → IsInSets setup t → (pid : ℕ) → (view t).ended_of pid ≡ rebuilt pid 1 (map (λ (e : EndedRow). e.moment.0) ((view t).ended_of pid))
+pub ended_of_pid : (setup : Setup) (t : Table) → IsInSets setup t → (pid : ℕ) → (view t).ended_of pid ≡ rebuilt pid 1 (map (λ (e : EndedRow). e.moment.0) ((view t).ended_of pid))
 ended_of_pid setup t sets pid = ended_back pid 1 ((view t).ended_of pid) (λ e i. eqb-true e.sid.pid pid (in_filter (is_end_of pid) t.ended e i).1) (sets.ended_in_order pid)
 
 pub ended_same : (setup : Setup) (s z : AllRecords) (t u : Table) → AgreeWith setup s (view t) → AgreeWith setup z (view u) → IsFine setup t → IsFine setup u → (o : OpenRow) → IsIn o t.opens → IsIn o u.opens
@@ -134,7 +134,7 @@ module _ (v w : View) (caller : Caller) (name : LeaseName) where
 -- ---- sessions behind what expires
 
 -- No session ends.
-abbrev ends_none : Change → Bool
+abbrev pub ends_none : Change → Bool
 ends_none (c.EndSession sid moment) = false
 ends_none (c.TakeOver file id owner handle) = false
 ends_none _ = true
@@ -145,20 +145,20 @@ ended_one (c.EndSession sid moment) x e = absurd cc
 ended_one (c.TakeOver file id owner handle) x e = absurd cc
 ended_one _ x e = refl
 
-ended_after : (cs : List Change) (x : Table) → list_all ends_none cs ≡ true → (perform_all cs x).ended ≡ x.ended
+pub ended_after : (cs : List Change) (x : Table) → list_all ends_none cs ≡ true → (perform_all cs x).ended ≡ x.ended
 ended_after [] x e = refl
 ended_after (change ∷ cs) x e = let p = and_parts (ends_none change) (list_all ends_none cs) e in ended_after cs (perform change x) p.1 ∙ ended_one change x p.0
 
 -- ---- its decision
 
 -- the open record of an id tells the file of its open
-file_by_id : (setup : Setup) (s : AllRecords) (t : Table) → AgreeWith setup s (view t) → IsSound t → (id : OpenId) (r : OpenRec) → s.opens id.pid id.call ≡ Some r → AreOfFile (has_id id) r.file t
+pub file_by_id : (setup : Setup) (s : AllRecords) (t : Table) → AgreeWith setup s (view t) → IsSound t → (id : OpenId) (r : OpenRec) → s.opens id.pid id.call ≡ Some r → AreOfFile (has_id id) r.file t
 file_by_id setup s t agree sound id r is o i e =
     let same : o.id ≡ id = same_id-eq o.id id e in
     let own = (all_of (HasOpenRecords s) ((view t).opens_of o.file) (agree.opens o.file) o (in_opens t sound o i)).by_id in
     ap (λ (x : OpenRec). x.file) (some_same (record { id = o.id; file = o.file }) r (sym own ∙ ap (λ (x : OpenId). s.opens x.pid x.call) same ∙ is))
 
-none_by_id : (setup : Setup) (s : AllRecords) (t : Table) → AgreeWith setup s (view t) → IsSound t → (id : OpenId) → s.opens id.pid id.call ≡ None → filter (has_id id) t.opens ≡ []
+pub none_by_id : (setup : Setup) (s : AllRecords) (t : Table) → AgreeWith setup s (view t) → IsSound t → (id : OpenId) → s.opens id.pid id.call ≡ None → filter (has_id id) t.opens ≡ []
 none_by_id setup s t agree sound id none =
     none_in (filter (has_id id) t.opens) (λ o i.
     let at = in_filter (has_id id) t.opens o i in
@@ -195,13 +195,13 @@ module _ (setup : Setup) (n : ℕ) (k j : Chains) (t u : Table) (stands : Stands
   abbrev own : KeyList
   own = pid_key info.pid ∷ []
 
-  made_is : (x : Table) → made_by setup (view x) worker made ≡ filter (has_id id) x.opens
+  pub made_is : (x : Table) → made_by setup (view x) worker made ≡ filter (has_id id) x.opens
   made_is x = ap (λ o. option_map_or (λ (i : WorkerInfo). (view x).opens_of_id (record { pid = i.pid; call = made })) o []) declared
 
-  looks : (x : Table) → look setup (view x) caller which ≡ names_beside (view x) (filter (has_id id) x.opens)
+  pub looks : (x : Table) → look setup (view x) caller which ≡ names_beside (view x) (filter (has_id id) x.opens)
   looks x = ap (names_beside (view x)) (made_is x)
 
-  open_same : s.opens named.pid made ≡ z.opens named.pid made
+  pub open_same : s.opens named.pid made ≡ z.opens named.pid made
   open_same = own_open_same setup n k j opens [] files names own same named.pid made (inl refl)
 
   abbrev behind : Table → Table
@@ -222,7 +222,7 @@ module _ (setup : Setup) (n : ℕ) (k j : Chains) (t u : Table) (stands : Stands
       ap (λ names. filter (has_id id) (perform_all (then_settles (map expires (due (view x) caller.moment names))) x).opens) (looks x ∙ ap (names_beside (view x)) none)
       ∙ none
 
-  reconnect_is : (x : Table) → reconnect setup (view x) caller worker made key ≡ reconnect_first (view x) caller (own_lease caller key) (filter (has_id id) x.opens)
+  pub reconnect_is : (x : Table) → reconnect setup (view x) caller worker made key ≡ reconnect_first (view x) caller (own_lease caller key) (filter (has_id id) x.opens)
   unfolding reconnect
   reconnect_is x = ap (reconnect_first (view x) caller (own_lease caller key)) (made_is x)
 
@@ -243,7 +243,7 @@ module _ (setup : Setup) (n : ℕ) (k j : Chains) (t u : Table) (stands : Stands
       let of_behind = behind_of_file setup caller (has_id id) r.file which looks t fine.sound of in
       let of_behind_other = behind_of_file setup caller (has_id id) r.file which looks u fine_other.sound of_other in
       let shows_behind : file_view r.file (view (behind t)) ≡ file_view r.file (view (behind u)) = view_behind_same setup caller (has_id id) r.file which looks t u fine.sound fine_other.sound of of_other shows in
-      let rows = rows_behind_same setup caller (has_id id) r.file which looks (behind t) (behind u) of_behind of_behind_other shows_behind in
+      let rows = rows_same (has_id id) r.file (behind t) (behind u) of_behind of_behind_other shows_behind in
       first_same (view (behind t)) (view (behind u)) caller (own_lease caller key) (filter (has_id id) (behind t).opens) (λ row i.
       let at = in_filter (has_id id) (behind t).opens row i in
       let was = opens_behind t row at.0 in
@@ -262,7 +262,7 @@ module _ (setup : Setup) (n : ℕ) (k j : Chains) (t u : Table) (stands : Stands
           all_still_in (λ file. true) (expired_by setup (view x) caller which) x row (expired_all adds_no_open (λ l. refl) refl setup (view x) caller which)
           (expired_all (touches (λ file. true)) (λ l. refl) refl setup (view x) caller which) i
 
-  reconnected_same : reconnect setup (view (behind t)) caller worker made key ≡ reconnect setup (view (behind u)) caller worker made key
+  pub reconnected_same : reconnect setup (view (behind t)) caller worker made key ≡ reconnect setup (view (behind u)) caller worker made key
   reconnected_same = reconnect_is (behind t) ∙ by_record (s.opens named.pid made) refl ∙ sym (reconnect_is (behind u))
 
 -- ---- the law

@@ -78,35 +78,45 @@ use Rattle.table_laws.proofs.AddedOpens.{IsNewNumber, new_above, IsTaken, added_
 
 -- ---- an open is taken over
 
-module _ (setup : Setup) (ps : List Place) (s : AllRecords) (here : ℕ → Bool) (t b : Table) (file : ℕ) (id : OpenId) (owner : Sid) (handle : ℕ) (within : here file ≡ true) (a : Along setup ps s here t b) where
-  abbrev taken : Table
+module _ (b : Table) (file : ℕ) (id : OpenId) (owner : Sid) (handle : ℕ) where
+  abbrev pub taken : Table
   taken = record b { opens = map (new_owner file id owner handle) b.opens }
 
-  other_open : (g : ℕ) → here g ≡ false → (o : OpenRow) → is_of_file g o ≡ true → new_owner file id owner handle o ≡ o
-  unfolding new_owner
-  other_open g out o of =
-      cond-false (is_open file id o) (record o { owner = owner; handle = handle }) o
-      (false_from_ne_true (is_open file id o) (λ e. both_ways (here g) out (ap here (sym (eqb-true o.file g of) ∙ eqb-true o.file file (and_parts (o.file == file) (same_id o.id id) e).0) ∙ within)))
+  -- another file shows the same
+  module _ (g : ℕ) (out : (file == g) ≡ false) where
+    other_open : (o : OpenRow) → is_of_file g o ≡ true → new_owner file id owner handle o ≡ o
+    unfolding new_owner
+    other_open o of =
+        cond-false (is_open file id o) (record o { owner = owner; handle = handle }) o
+        (false_from_ne_true (is_open file id o) (λ e. both_ways (file == g) out
+        (eq-eqb file g (sym (eqb-true o.file file (and_parts (o.file == file) (same_id o.id id) e).0) ∙ eqb-true o.file g of))))
 
-  same_opens : (g : ℕ) → here g ≡ false → (view taken).opens_of g ≡ (view b).opens_of g
-  same_opens g out =
-      filter-map (is_of_file g) (new_owner file id owner handle) (λ o. ap (λ f. f == g) (file-new_owner file id owner handle o)) b.opens
-      ∙ map_left_alone (is_of_file g) (new_owner file id owner handle) (other_open g out) b.opens
+    pub same_opens : (view taken).opens_of g ≡ (view b).opens_of g
+    same_opens =
+        filter-map (is_of_file g) (new_owner file id owner handle) (λ o. ap (λ f. f == g) (file-new_owner file id owner handle o)) b.opens
+        ∙ map_left_alone (is_of_file g) (new_owner file id owner handle) other_open b.opens
 
-  same_view : (g : ℕ) → here g ≡ false → file_view g (view taken) ≡ file_view g (view b)
-  same_view g out = λ i. record (file_view g (view b)) { opens = map (file_open (lives (view b))) (same_opens g out i) }
+    pub same_view : file_view g (view taken) ≡ file_view g (view b)
+    same_view = λ i. record (file_view g (view b)) { opens = map (file_open (lives (view b))) (same_opens i) }
 
-  taken_along : Along setup ps s here t taken
+module _ (setup : Setup) (ps : List Place) (s : AllRecords) (here : ℕ → Bool) (t b : Table) (file : ℕ) (id : OpenId) (owner : Sid) (handle : ℕ) (within : here file ≡ true) (a : Along setup ps s here t b) where
+  abbrev now : Table
+  now = taken b file id owner handle
+
+  apart : (g : ℕ) → here g ≡ false → (file == g) ≡ false
+  apart g out = false_from_ne_true (file == g) (λ e. both_ways (here g) out (ap here (sym (eqb-true file g e)) ∙ within))
+
+  taken_along : Along setup ps s here t now
   unfolding new_owner
   taken_along = record {
-    others = λ g out. same_then g t b taken (a.others g out) (record { opens = same_opens g out; ranges = refl; pending = refl; leases = λ name. refl });
-    settled = λ g out. ap settle_file (same_view g out) ∙ a.settled g out ∙ sym (same_view g out);
+    others = λ g out. same_then g t b now (a.others g out) (record { opens = same_opens b file id owner handle g (apart g out); ranges = refl; pending = refl; leases = λ name. refl });
+    settled = λ g out. let same = same_view b file id owner handle g (apart g out) in ap settle_file same ∙ a.settled g out ∙ sym same;
     names = λ o i e. let x = in_map (new_owner file id owner handle) b.opens o i in met x.0 x.1 o x.2 e;
     workers = a.workers;
     ended = a.ended;
     holds = a.holds;
     letters = a.letters;
-    waits = same_waits setup ps s t b taken refl a.waits;
+    waits = same_waits setup ps s t b now refl a.waits;
   }
     where
       met : (x : OpenRow) → IsIn x b.opens → (o : OpenRow) → new_owner file id owner handle x ≡ o → here o.file ≡ true → IsMetName ps o.lease
@@ -114,7 +124,7 @@ module _ (setup : Setup) (ps : List Place) (s : AllRecords) (here : ℕ → Bool
           (cond_both (is_open file id x) (record x { owner = owner; handle = handle }) x (λ (y : OpenRow). here y.file ≡ true → IsMetName ps y.lease) (λ _. a.names x i) (λ _. a.names x i)) h
 
   pub take_along : Along setup ps s here t (perform (c.TakeOver file id owner handle) b)
-  take_along = cond_both (list_any (is_of_handle owner handle) b.opens) b taken (Along setup ps s here t) (λ _. a) (λ _. taken_along)
+  take_along = cond_both (list_any (is_of_handle owner handle) b.opens) b now (Along setup ps s here t) (λ _. a) (λ _. taken_along)
 
   -- an open afterwards was there before, or is the one that was taken over
   pub record IsNewOwner (o : OpenRow) : Type 0 where
@@ -125,7 +135,7 @@ module _ (setup : Setup) (ps : List Place) (s : AllRecords) (here : ℕ → Bool
 
   pub open_from : (o : OpenRow) → IsIn o (perform (c.TakeOver file id owner handle) b).opens → IsIn o b.opens ⊎ IsNewOwner o
   unfolding new_owner
-  open_from = cond_both (list_any (is_of_handle owner handle) b.opens) b taken (λ (x : Table). (o : OpenRow) → IsIn o x.opens → IsIn o b.opens ⊎ IsNewOwner o)
+  open_from = cond_both (list_any (is_of_handle owner handle) b.opens) b now (λ (x : Table). (o : OpenRow) → IsIn o x.opens → IsIn o b.opens ⊎ IsNewOwner o)
       (λ _ o i. inl i)
       (λ _ o i. let x = in_map (new_owner file id owner handle) b.opens o i in by x.0 x.1 o x.2)
     where
@@ -142,10 +152,10 @@ pub record TakesOver (caller : Caller) (opens : List OpenRow) (d : Decision) : T
   pub held : LeaseState
   pub is : d ≡ record (only_reply (Granted (Some held) true)) { changes = c.TakeOver row.file row.id caller.sid caller.number ∷ [] }
 
-abbrev Decided : Caller → List OpenRow → Decision → Type 0
+abbrev pub Decided : Caller → List OpenRow → Decision → Type 0
 Decided caller opens d = (d ≡ only_reply ObjectNameNotFound) ⊎ TakesOver caller opens d
 
-decided : (v : View) (caller : Caller) (name : LeaseName) (opens : List OpenRow) → Decided caller opens (reconnect_first v caller name opens)
+pub decided : (v : View) (caller : Caller) (name : LeaseName) (opens : List OpenRow) → Decided caller opens (reconnect_first v caller name opens)
 decided v caller name [] = inl refl
 decided v caller name (o ∷ os) =
     cond_both (can_be_taken v caller.moment o && carries name o.lease) (take_over caller o (leases_at v name o.file)) (only_reply ObjectNameNotFound) (Decided caller (o ∷ os))

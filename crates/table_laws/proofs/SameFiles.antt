@@ -47,6 +47,13 @@ named_rows named file t of =
     sym (filter-filter named (is_of_file file) t.opens
     ∙ filter_every (is_of_file file) (filter named t.opens) (λ o i. let at = in_filter named t.opens o i in eq-eqb o.file file (of o at.0 at.1)))
 
+-- so they are the same where the file shows the same
+pub file_opens_same : (file : ℕ) (v w : View) → file_view file v ≡ file_view file w → v.opens_of file ≡ w.opens_of file
+file_opens_same file v w same = sym (opens_told file v) ∙ ap (λ (f : FileView). map (λ (o : FileOpen). o.row) f.opens) same ∙ opens_told file w
+
+pub rows_same : (named : OpenRow → Bool) (file : ℕ) (t u : Table) → AreOfFile named file t → AreOfFile named file u → file_view file (view t) ≡ file_view file (view u) → filter named t.opens ≡ filter named u.opens
+rows_same named file t u of of_other same = named_rows named file t of ∙ ap (filter named) (file_opens_same file (view t) (view u) same) ∙ sym (named_rows named file u of_other)
+
 all_inside : (alive : Sid → Bool) (file : ℕ) (cs : List Change) → list_all (is_of_break file) cs ≡ true → all_in alive file cs ≡ true
 all_inside alive file [] e = refl
 all_inside alive file (change ∷ cs) e =
@@ -116,10 +123,7 @@ module _ (setup : Setup) (caller : Caller) (named : OpenRow → Bool) (file : �
   module _ (t u : Table) (sound : IsSound t) (sound_other : IsSound u) (of : AreOfFile named file t) (of_other : AreOfFile named file u)
       (same : file_view file (view t) ≡ file_view file (view u)) where
     opens_same : (view t).opens_of file ≡ (view u).opens_of file
-    opens_same = sym (opens_told file (view t)) ∙ ap (λ (f : FileView). map (λ (o : FileOpen). o.row) f.opens) same ∙ opens_told file (view u)
-
-    rows_same : filter named t.opens ≡ filter named u.opens
-    rows_same = named_rows named file t of ∙ ap (filter named) opens_same ∙ sym (named_rows named file u of_other)
+    opens_same = file_opens_same file (view t) (view u) same
 
     names_same : (rows : List OpenRow) → ((row : OpenRow) → IsIn row rows → row.file ≡ file) → names_beside (view t) rows ≡ names_beside (view u) rows
     names_same [] own = refl
@@ -130,7 +134,7 @@ module _ (setup : Setup) (caller : Caller) (named : OpenRow → Bool) (file : �
     looks_same =
         looks t
         ∙ names_same (filter named t.opens) (row_file t sound of)
-        ∙ ap (names_beside (view u)) rows_same
+        ∙ ap (names_beside (view u)) (rows_same named file t u of of_other same)
         ∙ sym (looks u)
 
     leases_same : (name : LeaseName) → IsIn name (look setup (view t) caller call) → (view t).leases_of name ≡ (view u).leases_of name
@@ -140,21 +144,17 @@ module _ (setup : Setup) (caller : Caller) (named : OpenRow → Bool) (file : �
         ∙ ap (λ (f : FileView). f.leases name) same
         ∙ sym (named_leases u sound_other file name (subst (λ os. IsIn name (carried_by os)) opens_same carried))
 
-    expired_same : expired_by setup (view t) caller call ≡ expired_by setup (view u) caller call
+    pub due_same : due (view t) caller.moment (look setup (view t) caller call) ≡ due (view u) caller.moment (look setup (view u) caller call)
+    due_same =
+        ap (filter (is_due caller.moment)) (flat_same (view t) (view u) (look setup (view t) caller call) leases_same)
+        ∙ ap (due (view u) caller.moment) looks_same
+
+    pub expired_same : expired_by setup (view t) caller call ≡ expired_by setup (view u) caller call
     unfolding expired_by
-    expired_same =
-        ap (λ ls. then_settles (map expires (filter (is_due caller.moment) ls))) (flat_same (view t) (view u) (look setup (view t) caller call) leases_same)
-        ∙ ap (λ names. then_settles (map expires (due (view u) caller.moment names))) looks_same
+    expired_same = ap (λ rows. then_settles (map expires rows)) due_same
 
     pub view_behind_same : file_view file (view (behind t sound of)) ≡ file_view file (view (behind u sound_other of_other))
     view_behind_same =
         behind_view t sound of
         ∙ (λ i. perform_all_in_file (expired_same i) (same i))
         ∙ sym (behind_view u sound_other of_other)
-
-  pub rows_behind_same : (t u : Table) → AreOfFile named file t → AreOfFile named file u → file_view file (view t) ≡ file_view file (view u)
-      → filter named t.opens ≡ filter named u.opens
-  rows_behind_same t u of of_other same =
-      named_rows named file t of
-      ∙ ap (filter named) (sym (opens_told file (view t)) ∙ ap (λ (f : FileView). map (λ (o : FileOpen). o.row) f.opens) same ∙ opens_told file (view u))
-      ∙ sym (named_rows named file u of_other)

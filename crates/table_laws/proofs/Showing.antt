@@ -2,7 +2,7 @@
 use Rattle.std.proofs.Common.{◌≡◌, ℕ, Bool, true, false, cond, not, ◌==◌, ◌&&◌, ◌||◌, List, [], ◌∷◌, map, filter, Option, Some, None, refl, sym, ap, ◌∙◌, subst, inl, inr}
 use Rattle.std.specs.Prelude.{IfSome}
 use Rattle.std.specs.List.{list_any, AllByRecursion}
-use Rattle.std.specs.Option.{option_map_or, option_and_then}
+use Rattle.std.specs.Option.{option_map, option_map_or, option_and_then}
 use Rattle.sid_core.specs.declared.ids.LeaseName.{LeaseName}
 use Rattle.sid_core.specs.declared.ids.OpenId.{OpenId}
 use Rattle.sid_core.specs.declared.ids.Sid.{Sid}
@@ -23,15 +23,16 @@ use Rattle.record_codec.specs.declared.lease_rec.LeaseRec.{LeaseRec}
 use Rattle.record_codec.specs.declared.lease_rec.LeaseRef.{LeaseRef}
 use Rattle.record_codec.specs.declared.range_rec.RangeItem.{RangeItem}
 use Rattle.record_codec.specs.declared.range_rec.RangeRec.{RangeRec}
-use Rattle.record_codec.specs.Counts.{lives, is_current, hold_counts, has_token_at, watch_counts, is_connected, is_unanswered, settled_state, ref_counts, settled_refs, unless_empty, settled_lease, keeps, is_kept, entry_counts, pending_counts, entry_of_id_counts, range_counts}
+use Rattle.record_codec.specs.declared.register_rec.RegisterRec.{RegisterRec}
+use Rattle.record_codec.specs.Counts.{lives, is_current, hold_counts, has_token_at, has_token, watch_counts, register_watch_counts, is_connected, is_unanswered, settled_state, ref_counts, settled_refs, unless_empty, settled_lease, keeps, is_kept, entry_counts, pending_counts, entry_of_id_counts, range_counts}
 use Rattle.stored_table.specs.Decoded.{AllRecords, deciding}
 use Rattle.record_rows.specs.Rows.{open_row, range_row, watch_row}
 use Rattle.stored_table.specs.Shown.{part_of, pending_shown, is_named, if_of_file, lease_shown, shown}
 use Rattle.stored_table.specs.Exact.{unless_both_empty}
-use Rattle.stored_table.specs.Stands.{clean_lock}
+use Rattle.stored_table.specs.Stands.{clean_lock, clean_register}
 use Rattle.table_laws.proofs.Lists.{all_mapped, any_alike}
 
-filter_alike : {X : Type 0} (p q : X → Bool) (xs : List X) → AllByRecursion (λ x. p x ≡ q x) xs → filter p xs ≡ filter q xs
+pub filter_alike : {X : Type 0} (p q : X → Bool) (xs : List X) → AllByRecursion (λ x. p x ≡ q x) xs → filter p xs ≡ filter q xs
 filter_alike p q [] h = refl
 filter_alike p q (x ∷ xs) h = λ i. cond (h.0 i) (x ∷ filter_alike p q xs h.1 i) (filter_alike p q xs h.1 i)
 
@@ -137,6 +138,22 @@ module _ (s z : AllRecords) where
           let holds = filter_alike (hold_counts (deciding s)) (hold_counts (deciding z)) r.holds (all_mapped (λ (hold : Hold). SameOwner hold.sid) (λ hold. hold_counts (deciding s) hold ≡ hold_counts (deciding z) hold) (λ hold. lives_same hold.sid) r.holds a) in
           let watches = filter_alike (watch_counts (deciding s) (LockOf key)) (watch_counts (deciding z) (LockOf key)) r.watchers (all_mapped SameWatch (λ w. watch_counts (deciding s) (LockOf key) w ≡ watch_counts (deciding z) (LockOf key) w) (watch_same (LockOf key)) r.watchers b) in
           λ i. unless_both_empty (holds i) (watches i) (let x : GLockRec = record { holds = holds i; watchers = watches i } in x)
+
+  -- ---- a worker
+
+  pub record SameRegisterRecord (pid : ℕ) : Type 0 where
+    pub register : s.register pid ≡ z.register pid
+    pub watchers : IfSome (s.register pid) (λ (r : RegisterRec). AllByRecursion SameWatch r.watchers)
+
+  pub clean_register_same : (pid : ℕ) → SameRegisterRecord pid → option_map (clean_register (deciding s)) (s.register pid) ≡ option_map (clean_register (deciding z)) (z.register pid)
+  clean_register_same pid h = by (s.register pid) h.watchers ∙ ap (option_map (clean_register (deciding z))) h.register
+    where
+      by : (o : Option RegisterRec) → IfSome o (λ (r : RegisterRec). AllByRecursion SameWatch r.watchers) → option_map (clean_register (deciding s)) o ≡ option_map (clean_register (deciding z)) o
+      by None a = refl
+      by (Some r) a =
+          let watches = filter_alike (register_watch_counts (deciding s)) (register_watch_counts (deciding z)) r.watchers
+          (all_mapped SameWatch (λ w. register_watch_counts (deciding s) w ≡ register_watch_counts (deciding z) w) (λ w same. ap (λ m. has_token m w.sid.session w.call) same) r.watchers a) in
+          λ i. Some (let x : RegisterRec = record r { watchers = watches i } in x)
 
   -- ---- a file
 

@@ -1,5 +1,5 @@
 -- What it means that an entry keeps what the databases stand for.
-use Rattle.std.specs.Prelude.{◌≡◌, ℕ, ◌+◌, ◌==◌, ◌&&◌, false, List, [], ◌∷◌, ◌++◌, Some}
+use Rattle.std.specs.Prelude.{◌≡◌, ℕ, ◌+◌, ◌==◌, ◌&&◌, false, IfSome, List, [], ◌∷◌, ◌++◌, Some}
 use Rattle.std.specs.List.{AllByRecursion}
 use Rattle.sid_core.specs.declared.call.Call.{Call}
 use Rattle.sid_core.specs.declared.entry.Entry.{Entry}
@@ -12,10 +12,13 @@ use Rattle.serial_table.specs.declared.decision.Caller.{Caller}
 use Rattle.sid_core.specs.declared.reply.Reply.{Reply}
 use Rattle.sid_core.specs.declared.setup.Setup.{Setup}
 use Rattle.sid_core.specs.Setup.{IsSetup}
-use Rattle.serial_table.specs.View.{view}
+use Rattle.serial_table.specs.View.{View, view}
 use Rattle.serial_table.specs.History.{after, IsLegal}
 use Rattle.serial_table.specs.Step.{caller_of}
+use Rattle.chain_map.specs.declared.db.Db.TheVariants.{Opens}
+use Rattle.record_codec.specs.OpenRec.{open_rec}
 use Rattle.stored_table.specs.Decoded.{AllRecords, records_of}
+use Rattle.stored_table.specs.Met.{record_at}
 use Rattle.stored_table.specs.Shown.{part_of}
 use Rattle.stored_table.specs.Places.{Chains}
 use Rattle.stored_table.specs.Move.{move}
@@ -90,3 +93,9 @@ HistoryStands setup n history = StandsFor setup n (moved_by setup n history) (vi
 pub record NameNothingNew (setup : Setup) (n : ℕ) (before : List Entry) (caller : Caller) : Type 0 where
   pub unwatched : IsUnwatched setup n (moved_by setup n before) caller.sid caller.number
   pub unnamed : IsUnnamed (records_of setup n (moved_by setup n before)) (next_sid caller.sid)
+
+-- ---- what open records name
+
+-- Each open record whose id is an open names that open's file.
+abbrev pub NameTheirFiles : ℕ → Chains → View → Type 0
+NameTheirFiles n k v = (key : List ℕ) → IfSome (record_at open_rec n k Opens key) (λ r. AllByRecursion (λ o. o.file ≡ r.file) (v.opens_of_id r.id))

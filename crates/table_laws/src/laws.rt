@@ -22,9 +22,10 @@ ghost use Rattle.serial_table.specs.View.{View, view};
 ghost use Rattle.serial_table.specs.declared.decision.Caller.{Caller};
 ghost use Rattle.stored_table.specs.Places.{Chains, Place, HasChains, among, value_at};
 ghost use Rattle.stored_table.specs.Move.{move, places_written};
-ghost use Rattle.table_laws.specs.ByFootprint.{IsLegalByFootprint};
+ghost use Rattle.stored_table.specs.Histories.{moved_by};
+ghost use Rattle.table_laws.specs.ByFootprint.{IsLegalByFootprint, IsWrittenByFootprint};
 ghost use Rattle.table_laws.specs.Reached.{ReachesUnchanged, SamePartsCount};
-ghost use Rattle.table_laws.specs.Standing.{HistoryStands, LegalKeepsStanding, LegalKeepsStandingIfNew, LegalKeepsStandingIfUnnamed, NameNothingNew, call_entry};
+ghost use Rattle.table_laws.specs.Standing.{HistoryStands, LegalKeepsStanding, LegalKeepsStandingIfNew, LegalKeepsStandingIfUnnamed, NameNothingNew, NameTheirFiles, call_entry};
 
 /// What counts of a record goes by the records that it reaches: where these are the same in two databases, and the record itself is, the
 /// same parts of it count. So an entry that doesn't write a record, nor changes one that it reaches, leaves what counts of it, whatever the
@@ -122,6 +123,13 @@ pub fn records_name_nothing_new()
         → NameNothingNew setup n before caller }
 {}
 
+/// Behind a legal history each open record of the chains that the history makes of the first ones names its open's file: where an open has the
+/// record's id, it is of the file that the record names.
+pub fn open_records_name_the_files_of_their_opens()
+    ensures { (setup : Setup) (n : ℕ) (history : List Entry) → IsSetup setup → 1 ≤ n → IsLegal setup history
+        → NameTheirFiles n (moved_by setup n history) (view (after setup history)) }
+{}
+
 /// What a legal history makes of the first chains, with whatever number of chains per database, stands for the table after it.
 pub fn histories_stand()
     ensures { (setup : Setup) (n : ℕ) (history : List Entry) → IsSetup setup → 1 ≤ n → IsLegal setup history → HistoryStands setup n history }
@@ -162,6 +170,12 @@ pub fn reconnects_go_by_the_footprint()
         → IsLegalByFootprint setup n (call_entry by seq number moment (call.Reconnect worker made key) reply) }
 {}
 
+/// What is legal goes by the footprint alone: the same of `scavenge`.
+pub fn scavenges_go_by_the_footprint()
+    ensures { (setup : Setup) (n by seq number : ℕ) (moment : Moment) (reply : Reply)
+        → IsLegalByFootprint setup n (call_entry by seq number moment call.Scavenge reply) }
+{}
+
 /// What is legal goes by the footprint alone: the same of `glock`, `gunlock`, `recv`, `disconnect`, `tidy` and `status`.
 pub fn calls_of_no_file_go_by_the_footprint()
     ensures glock { (setup : Setup) (n by seq number : ℕ) (moment : Moment) (key : ℕ) (mode : Mode) (wait : Bool) (reply : Reply)
@@ -183,4 +197,10 @@ pub fn deaths_go_by_the_footprint()
     ensures died { (setup : Setup) (n by seq worker : ℕ) (moment : Moment)
         → IsLegalByFootprint setup n (record { by = by; seq = seq; what = Died worker moment }) }
     ensures tidied { (setup : Setup) (n by seq chain : ℕ) → IsLegalByFootprint setup n (record { by = by; seq = seq; what = Tidied chain }) }
+{}
+
+/// What is written goes by the footprint alone: where what two legal histories make of the first chains agrees on the footprint of an entry
+/// that is legal behind both, what the entry makes of both agrees on it too: of every call, of a death, and of a tidied chain.
+pub fn entries_write_by_the_footprint()
+    ensures { (setup : Setup) (n : ℕ) (e : Entry) → IsWrittenByFootprint setup n e }
 {}

@@ -53,14 +53,12 @@ second_added k e y at = let c = chain_of_entry e in raised_at (raised k c) (c + 
 
 pub counting_lawful : Lawful (λ k. Unit {0}) added (λ k e. chain_of_entry e + 1 < length k) (λ k e. chain_of_entry e ∷ (chain_of_entry e + 1) ∷ []) (λ js e. Unit {0})
 counting_lawful = record {
-  local = λ k l e a b same agree. let c = chain_of_entry e in (
-    refl,
-    (λ h. omega arith),
-    λ w is. of_two (λ z. get_elem? (added k e) z ≡ get_elem? (added l e) z) c w
-        (set_other (raised k c) (c + 1) c _ (λ q. omega arith) ∙ same_raised k l c (agree c (first_has c (c + 1))) ∙ sym (set_other (raised l c) (c + 1) c _ (λ q. omega arith)))
-        (same_raised (raised k c) (raised l c) (c + 1) (set_other k c (c + 1) _ (λ q. omega arith) ∙ agree (c + 1) (second_has c) ∙ sym (set_other l c (c + 1) _ (λ q. omega arith))))
-        is,
-  );
+  local = λ k l e a b same agree. (refl, λ h. omega arith);
+  made = λ k l e a b same agree may. let c = chain_of_entry e in λ w is.
+      of_two (λ z. get_elem? (added k e) z ≡ get_elem? (added l e) z) c w
+      (set_other (raised k c) (c + 1) c _ (λ q. omega arith) ∙ same_raised k l c (agree c (first_has c (c + 1))) ∙ sym (set_other (raised l c) (c + 1) c _ (λ q. omega arith)))
+      (same_raised (raised k c) (raised l c) (c + 1) (set_other k c (c + 1) _ (λ q. omega arith) ∙ agree (c + 1) (second_has c) ∙ sym (set_other l c (c + 1) _ (λ q. omega arith))))
+      is;
   frame = λ k e a h. let c = chain_of_entry e in (
     length-set (raised k c) (c + 1) _ ∙ length-set k c _,
     λ w no. set_other (raised k c) (c + 1) w _ (λ is. let t : true ≡ false = sym (subst (λ z. has z (c ∷ (c + 1) ∷ []) ≡ true) is (second_has c)) ∙ no in cc)

@@ -28,6 +28,8 @@ mod lines;
 #[cfg(test)]
 mod locks;
 #[cfg(test)]
+mod pages;
+#[cfg(test)]
 mod ranges;
 #[cfg(test)]
 mod records;

@@ -26,7 +26,7 @@ together {R} v w x (Some b) (Some d) (Some e) same p q = record {
   passes = q.passes ∙ (λ j. slice_set (p.passes j) (same j) x) ∙ set_twice b.passes v.number w x;
 }
 
-set_self : {A : Type 0} (xs : List A) (n : ℕ) (x : A) → get_elem? xs n ≡ some x → slice_set xs n x ≡ xs
+pub set_self : {A : Type 0} (xs : List A) (n : ℕ) (x : A) → get_elem? xs n ≡ some x → slice_set xs n x ≡ xs
 set_self [] n x e = absurd (some-ne-none x (sym e))
 set_self (y ∷ xs) zero x e = ap (λ z. z ∷ xs) (sym (some-injective y x e))
 set_self (y ∷ xs) (suc n) x e = ap (λ zs. y ∷ zs) (set_self xs n x e)

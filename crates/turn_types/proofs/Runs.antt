@@ -51,19 +51,22 @@ module _ (step : Chains → Entry → Chains) (legal : Chains → Entry → Type
       (λ out. let t = at_end js e i d (omega arith) at in let same : js ≡ take i (js ++ e ∷ []) = sym (take-append-le i js (e ∷ []) (omega arith) ∙ take_all i js (omega arith)) in
       subst (λ (p : List Entry × Entry). legal (fold step k0 p.0) p.1 × follows (of_pass p.1.by p.0) p.1) (λ j. (same j, t.1 j)) (ok, after))
 
+  -- an entry at its place
+  pub here : (ks zs : List Entry) (z : Entry) → IsLegal (ks ++ (z ∷ zs)) → IsLegal ks × legal (fold step k0 ks) z × follows (of_pass z.by ks) z × IsLegal ((ks ++ z ∷ []) ++ zs)
+  here ks zs z l =
+      let whole = subst IsLegal (sym (append_assoc ks (z ∷ []) zs)) l in
+      let part = legal_front (ks ++ z ∷ []) zs whole in
+      let place = subst (λ (t : List Entry). legal (fold step k0 t) z × follows (of_pass z.by t) z) (take-append-le (length ks) ks (z ∷ []) (omega arith) ∙ take_all (length ks) ks (omega arith)) (part (length ks) z (at_last ks z (length ks) refl)) in
+      (legal_front ks (z ∷ []) part, place.0, place.1, whole)
+
   module _ (first : Chains → Type 0) (names : Chains → Entry → List ℕ) (law : Lawful first step legal names follows) (began : first k0) where
     pub reached : (js : List Entry) → IsLegal js → Reached step legal follows first (fold step k0 js)
     reached js l = (k0, js, began, l, refl)
 
-    here : (ks zs : List Entry) (z : Entry) → IsLegal (ks ++ (z ∷ zs)) → IsLegal ks × legal (fold step k0 ks) z × IsLegal ((ks ++ z ∷ []) ++ zs)
-    here ks zs z l = let whole = subst IsLegal (sym (append_assoc ks (z ∷ []) zs)) l in
-        let part = legal_front (ks ++ z ∷ []) zs whole in
-        (legal_front ks (z ∷ []) part, subst (λ (t : List Entry). legal (fold step k0 t) z) (take-append-le (length ks) ks (z ∷ []) (omega arith) ∙ take_all (length ks) ks (omega arith)) (part (length ks) z (at_last ks z (length ks) refl)).0, whole)
-
     long : (ks zs : List Entry) → length (fold step k0 ks) ≡ length k0 → IsLegal (ks ++ zs) → length (fold step k0 (ks ++ zs)) ≡ length k0
     long ks [] e l = ap (λ (t : List Entry). length (fold step k0 t)) (append-nil ks) ∙ e
     long ks (z ∷ zs) e l = let h = here ks zs z l in let one = law.frame (fold step k0 ks) z (reached ks h.0) h.1 in
-        ap (λ (t : List Entry). length (fold step k0 t)) (sym (append_assoc ks (z ∷ []) zs)) ∙ long (ks ++ z ∷ []) zs (ap length (fold_push step k0 ks z) ∙ one.0 ∙ e) h.2
+        ap (λ (t : List Entry). length (fold step k0 t)) (sym (append_assoc ks (z ∷ []) zs)) ∙ long (ks ++ z ∷ []) zs (ap length (fold_push step k0 ks z) ∙ one.0 ∙ e) h.3
 
     pub legal_length : (js : List Entry) → IsLegal js → length (fold step k0 js) ≡ length k0
     legal_length js l = long [] js refl l
@@ -72,10 +75,13 @@ module _ (step : Chains → Entry → Chains) (legal : Chains → Entry → Type
     untouched ks [] c l u = ap (λ (t : List Entry). get_elem? (fold step k0 t) c) (append-nil ks)
     untouched ks (z ∷ zs) c l u = let h = here ks zs z l in let push = fold_push step k0 ks z in
         ap (λ (t : List Entry). get_elem? (fold step k0 t) c) (sym (append_assoc ks (z ∷ []) zs))
-        ∙ untouched (ks ++ z ∷ []) zs c h.2 (subst (λ (k : Chains). IsUntouched step names c k zs) (sym push) u.1)
+        ∙ untouched (ks ++ z ∷ []) zs c h.3 (subst (λ (k : Chains). IsUntouched step names c k zs) (sym push) u.1)
         ∙ ap (λ (k : Chains). get_elem? k c) push ∙ (law.frame (fold step k0 ks) z (reached ks h.0) h.1).1 c u.0
 
-    pub moved : (ks js : List Entry) (e : Entry) → IsLegal ks → IsLegal js → legal (fold step k0 ks) e → Agree (names (fold step k0 ks) e) (fold step k0 ks) (fold step k0 js)
+    pub moved : (ks js : List Entry) (e : Entry) → IsLegal ks → IsLegal js → follows (of_pass e.by ks) e → follows (of_pass e.by js) e → legal (fold step k0 ks) e → Agree (names (fold step k0 ks) e) (fold step k0 ks) (fold step k0 js)
         → (legal (fold step k0 js) e) × Agree (names (fold step k0 ks) e) (fold step k0 (ks ++ e ∷ [])) (fold step k0 (js ++ e ∷ []))
-    moved ks js e l m may agree = let r = law.local (fold step k0 ks) (fold step k0 js) e (reached ks l) (reached js m) (legal_length ks l ∙ sym (legal_length js m)) agree in
-        (r.1 may, λ c h. ap (λ (k : Chains). get_elem? k c) (fold_push step k0 ks e) ∙ r.2 c h ∙ ap (λ (k : Chains). get_elem? k c) (sym (fold_push step k0 js e)))
+    moved ks js e l m after other may agree =
+        let long = legal_length ks l ∙ sym (legal_length js m) in
+        let r = law.local (fold step k0 ks) (fold step k0 js) e (reached ks l) (reached js m) long agree in
+        let made = law.made (fold step k0 ks) (fold step k0 js) e (k0, ks, began, l, after, refl) (k0, js, began, m, other, refl) long agree may in
+        (r.1 may, λ c h. ap (λ (k : Chains). get_elem? k c) (fold_push step k0 ks e) ∙ made c h ∙ ap (λ (k : Chains). get_elem? k c) (sym (fold_push step k0 js e)))

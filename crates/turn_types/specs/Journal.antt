@@ -36,6 +36,10 @@ module _ (step : Chains → Entry → Chains) (legal : Chains → Entry → Type
   abbrev pub Reached : (Chains → Type 0) → Chains → Type 0
   Reached first k = (k0 : Chains) × (journal : List Entry) × first k0 × Legal k0 journal × (k ≡ fold step k0 journal)
 
+  -- and the entry follows the earlier ones of its pass
+  abbrev pub ReachedBefore : (Chains → Type 0) → Entry → Chains → Type 0
+  ReachedBefore first e k = (k0 : Chains) × (journal : List Entry) × first k0 × Legal k0 journal × follows (of_pass e.by journal) e × (k ≡ fold step k0 journal)
+
 -- none of the entries names the chain
 module _ (step : Chains → Entry → Chains) (names : Chains → Entry → List ℕ) (c : ℕ) where
   abbrev pub IsUntouched : Chains → List Entry → Type 0
@@ -45,9 +49,12 @@ module _ (step : Chains → Entry → Chains) (names : Chains → Entry → List
 -- The law of a rule, over the chains that legal journals make of first ones.
 module _ (first : Chains → Type 0) (step : Chains → Entry → Chains) (legal : Chains → Entry → Type 0) (names : Chains → Entry → List ℕ) (follows : List Entry → Entry → Type 0) where
   pub record Lawful : Type 0 where
-    -- what an entry names, whether it is legal and what it makes depend on the named chains alone
+    -- what an entry names, and whether it is legal, depends on the named chains alone
     pub local : (k l : Chains) (e : Entry) → Reached step legal follows first k → Reached step legal follows first l → length k ≡ length l → Agree (names k e) k l
-        → (names l e ≡ names k e) × (legal k e → legal l e) × Agree (names k e) (step k e) (step l e)
+        → (names l e ≡ names k e) × (legal k e → legal l e)
+    -- so does what a legal step makes, where the entry follows the earlier ones of its pass
+    pub made : (k l : Chains) (e : Entry) → ReachedBefore step legal follows first e k → ReachedBefore step legal follows first e l → length k ≡ length l → Agree (names k e) k l
+        → legal k e → Agree (names k e) (step k e) (step l e)
     -- a legal step changes the named chains alone
     pub frame : (k : Chains) (e : Entry) → Reached step legal follows first k → legal k e
         → (length (step k e) ≡ length k) × ((c : ℕ) → has c (names k e) ≡ false → get_elem? (step k e) c ≡ get_elem? k c)

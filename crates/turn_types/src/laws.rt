@@ -10,8 +10,8 @@ use crate::replay::Replay;
 
 /// Journals of a rule, from chains with which a table may start: what stands before a place of a legal one is legal; an
 /// entry that is legal behind it makes it longer; the number of chains stays; so does a chain that none of some entries
-/// names. An entry that is legal behind one legal journal is legal behind another that leaves the chains which it names
-/// the same, and makes the same of these.
+/// names. An entry that is legal behind one legal journal, and follows the entries of its pass there and in another, is legal
+/// behind the other where that leaves the chains which it names the same, and makes the same of these.
 pub fn journals_of_a_rule<R: Replay>()
     ensures front { (rule : R) (k : Chains) (before behind : List Entry) → Legal (R.step rule) (R.legal rule) (R.follows rule) k (before ++ behind) →
         Legal (R.step rule) (R.legal rule) (R.follows rule) k before }
@@ -25,6 +25,7 @@ pub fn journals_of_a_rule<R: Replay>()
         get_elem? (fold (R.step rule) k (before ++ behind)) c ≡ get_elem? (fold (R.step rule) k before) c }
     ensures moved { (rule : R) (k : Chains) (one other : List Entry) (entry : Entry) → R.first rule k →
         Legal (R.step rule) (R.legal rule) (R.follows rule) k one → Legal (R.step rule) (R.legal rule) (R.follows rule) k other →
+        R.follows rule (of_pass entry.by one) entry → R.follows rule (of_pass entry.by other) entry →
         R.legal rule (fold (R.step rule) k one) entry →
         Agree (R.names rule (fold (R.step rule) k one) entry) (fold (R.step rule) k one) (fold (R.step rule) k other) →
         (R.legal rule (fold (R.step rule) k other) entry)

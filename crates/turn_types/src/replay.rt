@@ -25,6 +25,6 @@ pub trait Replay: Copy {
     /// Each of the facts has one proof at most.
     ghost single: { (r : Self) → Single (first r) (legal r) (follows r) };
 
-    /// A step depends on the chains that it names alone, and changes them alone.
+    /// A legal step depends on the chains that it names alone, and changes them alone.
     ghost law: { (r : Self) → Lawful (first r) (step r) (legal r) (names r) (follows r) };
 }

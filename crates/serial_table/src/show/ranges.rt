@@ -5,37 +5,33 @@ ghost use Rattle.serial_table.specs.View.{view, has_id, is_range_of};
 ghost use Rattle.serial_table.specs.File.{FileOpen, file_view};
 ghost use Rattle.serial_table.specs.ByFile.{file_of_range};
 ghost use Rattle.serial_table.specs.Keeping.{FindsOpens};
-ghost use Rattle.serial_table.specs.Tables.{column, ranges_head, pid_text, ranges_row, range_rows, of_files, ranges_table};
+ghost use Rattle.serial_table.specs.Showing.{pid_of_owner};
+ghost use Rattle.serial_table.specs.Tables.{pid_text, ranges_row, range_rows, of_files, ranges_table};
 
-use super::column::{push_column, push_line, push_number, push_rows_or_none};
-use super::files::push_pid;
 use super::index::{Key, key_of_id, opens_by_id};
+use super::writers::{Owner, push_range_row, push_ranges_page};
 use crate::by_file::{ranges_of, sort_ranges};
 use crate::rows::{OpenRow, RangeRow};
 use crate::table::Table;
+use crate::view;
 use sid_core::{FileInfo, OutOfMemory, Setup};
 use std::collections::BTreeMap;
 
-fn head() -> &'static [u8]
-    ensures { result.now ≡ ranges_head }
-{
-    b"Byte range locks:\nPid    Kind Start                Length               Name\n----------------------------------------------------------\n"
-}
-
-fn push_pid_of(
-    out: &mut Vec<u8>,
+/// Whose the range's open is, if it is there.
+fn owner_of(
     table: &Table,
     opens: &BTreeMap<Key, OpenRow>,
     file: u64,
     range: &RangeRow,
-) -> Result<(), OutOfMemory>
+) -> Option<Owner>
     requires { FindsOpens opens.now table.now.opens }
-    ensures { OnOk result (out.new.items ≡ out.old.items ++ column 6 (option_map_or pid_text (find (λ (o : FileOpen). has_id range.now.id o.row) (file_view file (view table.now)).opens) [])) }
+    ensures { pid_of_owner result ≡ option_map_or pid_text (find (λ (o : FileOpen). has_id range.now.id o.row) (file_view file (view table.now)).opens) [] }
 {
-    match opens.get(&key_of_id(file, range.id)) {
-        Some(row) => push_pid(out, table, row),
-        None => push_column(out, 6, b""),
-    }
+    let row = opens.get(&key_of_id(file, range.id))?;
+    Some(Owner {
+        pid: row.owner.pid,
+        connected: view::lives(table.workers.as_slice(), row.owner),
+    })
 }
 
 fn push_row(
@@ -49,11 +45,7 @@ fn push_row(
     requires { FindsOpens opens.now table.now.opens }
     ensures { OnOk result (out.new.items ≡ out.old.items ++ ranges_row info.now (file_view file (view table.now)) range.now) }
 {
-    push_pid_of(out, table, opens, file, range)?;
-    push_column(out, 4, range.mode.lock_text().as_bytes())?;
-    push_number(out, 20, range.span.start)?;
-    push_number(out, 20, range.span.length)?;
-    push_line(out, info.name.bytes())
+    push_range_row(out, info, owner_of(table, opens, file, range), range)
 }
 
 fn push_file(
@@ -109,5 +101,5 @@ pub(crate) fn push_ranges(
 {
     let mut rows = Vec::new(table.ranges.allocator());
     push_rows(&mut rows, setup, table)?;
-    push_rows_or_none(out, b"No byte range locks", head(), rows.as_slice())
+    push_ranges_page(out, rows.as_slice())
 }

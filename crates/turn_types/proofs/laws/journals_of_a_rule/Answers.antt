@@ -14,4 +14,4 @@ pub returns-clause-untouched : goal.returns-clause-untouched
 returns-clause-untouched g c rule k before behind n began l u = runs.untouched (g.R.Replay.step rule) (g.R.Replay.legal rule) (g.R.Replay.follows rule) k (g.R.Replay.first rule) (g.R.Replay.names rule) (g.R.Replay.law rule) began before behind n l u
 
 pub returns-clause-moved : goal.returns-clause-moved
-returns-clause-moved g c rule k one other entry began l m may agree = runs.moved (g.R.Replay.step rule) (g.R.Replay.legal rule) (g.R.Replay.follows rule) k (g.R.Replay.first rule) (g.R.Replay.names rule) (g.R.Replay.law rule) began one other entry l m may agree
+returns-clause-moved g c rule k one other entry began l m after after_other may agree = runs.moved (g.R.Replay.step rule) (g.R.Replay.legal rule) (g.R.Replay.follows rule) k (g.R.Replay.first rule) (g.R.Replay.names rule) (g.R.Replay.law rule) began one other entry l m after after_other may agree

@@ -1,59 +1,25 @@
-use Rattle.std.proofs.Common.{◌≡◌, false, [], sym, refl, subst, append-nil, length-set}
-use Rattle.std.specs.Prelude.{fold}
-use mathlib.Core.Option.{some, some-ne-none}
-use lib.ListN.{get_elem?}
-use Rattle.turn_types.specs.Shown.{Numbered, look, due, or_else, is_committed}
+use Rattle.std.proofs.Common.{◌≡◌, false, refl, subst}
+use Rattle.turn_types.specs.Shown.{Shown, is_committed}
 use Rattle.turn_types.specs.Calls.{Abandoned}
-use Rattle.turn_types.specs.Shown.{Shown}
-use Rattle.dbwrap_core.specs.Shows.{blank, plan_of}
-use Rattle.dbwrap_core.proofs.Lists as lists
+use Rattle.dbwrap_core.proofs.Here as pass
 use Rattle.dbwrap_core.proofs.Keeping as keep
 use Rattle.dbwrap_core.proofs.Planning as plans
-use Rattle.dbwrap_core.proofs.Showing as show
 use Rattle.dbwrap_core.proofs.plain.PlainCells.abandon.Goals as goal
 
 pub invariant_of-self : goal.invariant_of-self
 invariant_of-self g c =
-    let cells = c.args.self.now in let ok = cells.sound in let me = c.index_mut-me.result.now in
-    let at = lists.at_place cells.passes.items c.args.pass me c.requires.pass c.index_mut-me.ensures.value in
-    let lives = show.is_living cells c.args.pass me at c.requires.able.lives in let old = show.living_is cells c.args.pass me at c.requires.able.lives in
-    let idle : due (plan_of me.stage me.new.items) ≡ [] = plans.none_due _ ((subst (λ (v : Shown g.row.R.Denot). is_committed v.plan ≡ false) old c.requires.uncommitted)) in
-    record {
-      sound = keep.sets _ _ _ _ _ cells.rule cells.first.value.items _ _ _ _ c.args.pass me _ ok at
-          (λ o. record {
-            parts = λ x y e f. subst (λ (d : Numbered). get_elem? (fold (g.R.Replay.step cells.rule) cells.first.value.items cells.journal.items) x ≡ some (or_else (look x d) y)) idle (o.parts x y e f);
-            planned = λ i x e. absurd (some-ne-none x (sym e));
-            rising = λ i j x y e f l. absurd (some-ne-none x (sym e));
-            idle = λ z. c.clear.ensures.items;
-            deaths = o.deaths;
-            frees = o.frees;
-            recovered = o.recovered;
-            seen = o.seen;
-            own = o.own;
-            commits = o.commits;
-            unburied = o.unburied;
-            at_death = λ d e. keep.living_not_dead me d lives e;
-          })
-          (λ a. a) (λ h q. ok.dead_known c.args.pass h me q at) (λ h q. ok.freed_known c.args.pass h me q at);
-    }
+    let cells = c.args.self.now in let me = c.index_mut-me.result.now in
+    let h = pass.here cells c.args.pass me c.requires.pass c.index_mut-me.ensures.value c.requires.able.lives in
+    record { sound = keep.empties cells.sound c.args.pass me _ h.at refl (plans.none_due _ (subst (λ (v : Shown g.row.R.Denot). is_committed v.plan ≡ false) h.old c.requires.uncommitted)) c.clear.ensures.items }
 
 pub returns-clause-still : goal.returns-clause-still
 returns-clause-still g c =
-    let cells = c.args.self.now in let ok = cells.sound in let me = c.index_mut-me.result.now in
-    let at = lists.at_place cells.passes.items c.args.pass me c.requires.pass c.index_mut-me.ensures.value in
-    let lives = show.is_living cells c.args.pass me at c.requires.able.lives in let old = show.living_is cells c.args.pass me at c.requires.able.lives in
-    record {
-      rule = refl;
-      chains = refl;
-      passes = length-set _ _ _;
-      leaves = show.leaves cells.rule cells.first.value.items cells.chains.items _ cells.words.items _ cells.journal.items _ c.args.pass cells.passes.items me _ (blank cells.rule [] 0 []) [] at (sym (append-nil _)) (sym (append-nil _))
-          (λ m q e d. (refl, refl));
-    }
+    let cells = c.args.self.now in let me = c.index_mut-me.result.now in
+    let h = pass.here cells c.args.pass me c.requires.pass c.index_mut-me.ensures.value c.requires.able.lives in
+    pass.still cells c.args.pass me h _ _ refl refl refl refl refl refl refl
 
 pub returns-clause-abandoned : goal.returns-clause-abandoned
 returns-clause-abandoned g c =
-    let cells = c.args.self.now in let ok = cells.sound in let me = c.index_mut-me.result.now in
-    let at = lists.at_place cells.passes.items c.args.pass me c.requires.pass c.index_mut-me.ensures.value in
-    let lives = show.is_living cells c.args.pass me at c.requires.able.lives in let old = show.living_is cells c.args.pass me at c.requires.able.lives in
-    show.of_living cells.rule cells.first.value.items cells.chains.items cells.chains.items cells.words.items cells.words.items cells.journal.items cells.journal.items c.args.pass cells.passes.items me _ (blank cells.rule [] 0 [])
-    Abandoned at lives lives refl
+    let cells = c.args.self.now in let me = c.index_mut-me.result.now in
+    let h = pass.here cells c.args.pass me c.requires.pass c.index_mut-me.ensures.value c.requires.able.lives in
+    pass.alters cells c.args.pass me h _ Abandoned h.lives refl

@@ -3,7 +3,6 @@ use mathlib.Core.Option.{some, some-injective}
 use mathlib.Core.Logic.{dite}
 use native.Mathlib.Decide.{ℕ_discrete}
 use lib.ListN.{get_elem?}
-use Rattle.dbwrap_core.specs.declared.pass.PlainPass.{PlainPass}
 use Rattle.dbwrap_core.specs.declared.plain.PlainCells.{PlainCells}
 use Rattle.dbwrap_core.specs.Redone.{stored_or_not, made_or_not, count_of}
 use Rattle.dbwrap_core.proofs.Lists as lists
@@ -23,18 +22,14 @@ returns-then-not-is_empty-clause-redone g c =
 
 pub returns-then-not-is_empty-clause-stopped : goal.returns-then-not-is_empty-clause-stopped
 returns-then-not-is_empty-clause-stopped g c x e =
-    let cells = c.args.self.now in let rd = c.requires.dead in let inside = lists.within cells.passes.items c.args.dead rd.0 rd.2 in
-    let is = some-injective c.index.result.now rd.0 (sym (lists.at_place cells.passes.items c.args.dead c.index.result.now inside c.index.ensures) ∙ rd.2) in
-    let long : length c.index.result.now.new.items ≡ length rd.0.new.items = ap (λ (z : PlainPass). length z.new.items) is in let some_left = redo.left_is cells c.args.dead rd c.requires.unmade in
+    let some_left = redo.left_here c.args.self.now c.args.dead c.requires.dead c.requires.unmade c.index.result.now c.index.ensures in
     let empty = c.is_empty.ensures in let not_empty = c.if-not-is_empty.true in
     let some_more : 0 < length c.index.result.now.new.items = grind arith in c.requires.stopped (omega arith) ∙ ap Some (omega arith)
 
 pub loop-c-init : goal.loop-c-init
 loop-c-init g c =
-    let cells = c.args.self.now in let rd = c.requires.dead in let inside = lists.within cells.passes.items c.args.dead rd.0 rd.2 in
-    let is = some-injective c.index.result.now rd.0 (sym (lists.at_place cells.passes.items c.args.dead c.index.result.now inside c.index.ensures) ∙ rd.2) in
-    let long : length c.index.result.now.new.items ≡ length rd.0.new.items = ap (λ (z : PlainPass). length z.new.items) is in let some_left = redo.left_is cells c.args.dead rd c.requires.unmade in
-    let is_empty = c.is_empty.ensures in let empty = c.if-not-is_empty.false in
+    let cells = c.args.self.now in let rd = c.requires.dead in let some_left = redo.left_here cells c.args.dead rd c.requires.unmade c.index.result.now c.index.ensures in
+    let long = redo.left_is cells c.args.dead rd c.requires.unmade in let is_empty = c.is_empty.ensures in let empty = c.if-not-is_empty.false in
     let none : length c.index.result.now.new.items ≡ 0 = grind arith in
     (redo.no_step cells c.args.dead rd, ap stored_or_not rd.2 ∙ redo.stored_if_empty rd.0.stage rd.0.new.items (ap made_or_not (sym rd.2) ∙ c.requires.unmade) (plans.nil_of rd.0.new.items (omega arith)), omega arith, (λ b l e. absurd (omega arith)), (λ most e l. omega arith))
 
@@ -45,19 +40,15 @@ overflow_add-dead g c =
 
 pub overflow_add-stored : goal.overflow_add-stored
 overflow_add-stored g c =
-    let i = c.loop-c.invariant in
-    let sum = i.2 in let most_words = redo.at_most (c.args.dead + 1) c.args.self.now.words.items in let many = c.args.self.now.sound.each_held in let few_chains = c.args.self.now.sound.few_chains in let few = c.requires.few in
-    omega arith
+    let sum = c.loop-c.invariant.2 in let most = redo.few_words c.args.self.now (c.args.dead + 1) in let few = c.requires.few in omega arith
 
 pub returns-then-is_over-clause-redone : goal.returns-then-is_over-clause-redone
 returns-then-is_over-clause-redone g c =
-    let i = c.loop-c.invariant in
-    i.0
+    c.loop-c.invariant.0
 
 pub returns-then-is_over-clause-counted : goal.returns-then-is_over-clause-counted
 returns-then-is_over-clause-counted g c =
-    let i = c.loop-c.invariant in
-    i.2
+    c.loop-c.invariant.2
 
 pub returns-then-is_over-clause-stopped : goal.returns-then-is_over-clause-stopped
 returns-then-is_over-clause-stopped g c x e =
@@ -65,18 +56,15 @@ returns-then-is_over-clause-stopped g c x e =
 
 pub returns-then-is_over-clause-allowed : goal.returns-then-is_over-clause-allowed
 returns-then-is_over-clause-allowed g c =
-    let i = c.loop-c.invariant in
-    i.4
+    c.loop-c.invariant.4
 
 pub give_back-requires-clause-dead : goal.give_back-requires-clause-dead
 give_back-requires-clause-dead g c =
-    let i = c.loop-c.invariant in
-    i.0.dead
+    c.loop-c.invariant.0.dead
 
 pub give_back-requires-clause-stored : goal.give_back-requires-clause-stored
 give_back-requires-clause-stored g c =
-    let i = c.loop-c.invariant in
-    i.1
+    c.loop-c.invariant.1
 
 pub give_back-requires-clause-held : goal.give_back-requires-clause-held
 give_back-requires-clause-held g c =
@@ -87,9 +75,7 @@ give_back-requires-clause-held g c =
 
 pub overflow_add-freed : goal.overflow_add-freed
 overflow_add-freed g c =
-    let i = c.loop-c.invariant in
-    let sum = i.2 in let most_words = redo.at_most (c.args.dead + 1) c.args.self.now.words.items in let many = c.args.self.now.sound.each_held in let few_chains = c.args.self.now.sound.few_chains in let few = c.requires.few in
-    omega arith
+    let sum = c.loop-c.invariant.2 in let most = redo.few_words c.args.self.now (c.args.dead + 1) in let few = c.requires.few in omega arith
 
 pub loop-c-preserved : goal.loop-c-preserved
 loop-c-preserved g c =
@@ -124,13 +110,11 @@ loop-c-preserved g c =
 
 pub returns-clause-redone : goal.returns-clause-redone
 returns-clause-redone g c =
-    let i = c.loop-c.invariant in
-    i.0
+    c.loop-c.invariant.0
 
 pub returns-clause-counted : goal.returns-clause-counted
 returns-clause-counted g c =
-    let i = c.loop-c.invariant in
-    i.2
+    c.loop-c.invariant.2
 
 pub returns-clause-stopped : goal.returns-clause-stopped
 returns-clause-stopped g c x e =
@@ -139,5 +123,4 @@ returns-clause-stopped g c x e =
 
 pub returns-clause-allowed : goal.returns-clause-allowed
 returns-clause-allowed g c =
-    let i = c.loop-c.invariant in
-    i.4
+    c.loop-c.invariant.4

@@ -1,7 +1,5 @@
-use Rattle.std.proofs.Common.{◌≡◌, ◌+◌, true, sym, refl, ap, ◌∙◌, arith, length-set}
-use mathlib.Core.Option.{some-injective}
-use Rattle.chain_map.specs.Pairs.{Pairs}
-use Rattle.turn_types.specs.Shown.{look, or_else, is_stored}
+use Rattle.std.proofs.Common.{◌≡◌, true, sym, refl, ap, ◌∙◌, arith, length-set}
+use Rattle.turn_types.specs.Shown.{is_stored}
 use Rattle.dbwrap_core.specs.Shows.{plan_of}
 use Rattle.dbwrap_core.specs.Sound.{due_of}
 use Rattle.dbwrap_core.specs.Redone.{stored_or_not}
@@ -18,13 +16,13 @@ index_mut-requires g c =
 
 pub invariant_of-self : goal.invariant_of-self
 invariant_of-self g c =
-    let cells = c.args.self.now in let ok = cells.sound in let rd = c.requires.dead in let inside = lists.within cells.passes.items c.args.dead rd.0 rd.2 in
+    let cells = c.args.self.now in let rd = c.requires.dead in
     let stored : is_stored (plan_of rd.0.stage rd.0.new.items) ≡ true = ap stored_or_not (sym rd.2) ∙ c.requires.stored in
-    record { sound = keep.gives_back _ _ _ _ _ cells.rule cells.first.value.items cells.chains.items cells.words.items cells.journal.items cells.passes.items c.args.dead c.args.c rd.0 ok rd.2 c.requires.held (plans.stored_plans _ stored) (plans.stored_due _ stored) }
+    record { sound = keep.gives_back cells.sound c.args.dead c.args.c rd.0 rd.2 c.requires.held (plans.stored_plans _ stored) (plans.stored_due _ stored) }
 
 pub returns-clause-redone : goal.returns-clause-redone
 returns-clause-redone g c =
-    let cells = c.args.self.now in let ok = cells.sound in let rd = c.requires.dead in let inside = lists.within cells.passes.items c.args.dead rd.0 rd.2 in
+    let cells = c.args.self.now in let rd = c.requires.dead in
     redo.redoing cells _ c.args.dead rd.0 rd.0 rd.1 refl refl refl refl (length-set _ _ _) (sym (lists.set_self cells.passes.items c.args.dead rd.0 rd.2)) rd.2 rd.3 refl
-    (λ m out. holding.held_aside (m + 1) 0 c.args.c 0 cells.chains.items cells.words.items (λ z. let y = some-injective (c.args.dead + 1) (m + 1) (sym c.requires.held ∙ z) in out (omega arith)) (λ z. omega arith))
-    (λ x f. redo.was_word c.args.dead c.args.c x cells.words.items c.requires.held f) (λ x y z g h. ap (λ (u : Pairs). or_else (look x (due_of rd.0)) u) (some-injective z y (sym h ∙ g)))
+    (λ m out. holding.held_freed c.args.dead c.args.c cells.chains.items cells.words.items c.requires.held m out)
+    (λ x f. redo.was_word c.args.dead c.args.c x cells.words.items c.requires.held f) (redo.same_there cells.chains.items (due_of rd.0))

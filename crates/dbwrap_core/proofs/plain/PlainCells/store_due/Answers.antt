@@ -1,8 +1,6 @@
-use Rattle.std.proofs.Common.{◌≡◌, length, sym, refl, ap, ◌∙◌, arith, Some}
-use mathlib.Core.Option.{some-injective}
+use Rattle.std.proofs.Common.{sym, refl, ap, ◌∙◌, arith, Some}
 use mathlib.Core.Logic.{dite}
 use native.Mathlib.Decide.{ℕ_discrete}
-use Rattle.dbwrap_core.specs.declared.pass.PlainPass.{PlainPass}
 use Rattle.dbwrap_core.proofs.Lists as lists
 use Rattle.dbwrap_core.proofs.Redoing as redo
 use Rattle.dbwrap_core.proofs.plain.PlainCells.store_due.Goals as goal
@@ -18,23 +16,19 @@ loop-stored-init g c =
 
 pub returns-then-is_over-clause-redone : goal.returns-then-is_over-clause-redone
 returns-then-is_over-clause-redone g c =
-    let i = c.loop-stored.invariant in
-    i.0
+    c.loop-stored.invariant.0
 
 pub returns-then-is_over-clause-unmade : goal.returns-then-is_over-clause-unmade
 returns-then-is_over-clause-unmade g c =
-    let i = c.loop-stored.invariant in
-    i.1
+    c.loop-stored.invariant.1
 
 pub returns-then-is_over-clause-words : goal.returns-then-is_over-clause-words
 returns-then-is_over-clause-words g c =
-    let i = c.loop-stored.invariant in
-    i.2
+    c.loop-stored.invariant.2
 
 pub returns-then-is_over-clause-counted : goal.returns-then-is_over-clause-counted
 returns-then-is_over-clause-counted g c =
-    let i = c.loop-stored.invariant in
-    i.3
+    c.loop-stored.invariant.3
 
 pub returns-then-is_over-clause-stopped : goal.returns-then-is_over-clause-stopped
 returns-then-is_over-clause-stopped g c l =
@@ -42,24 +36,19 @@ returns-then-is_over-clause-stopped g c l =
 
 pub returns-then-is_over-clause-allowed : goal.returns-then-is_over-clause-allowed
 returns-then-is_over-clause-allowed g c =
-    let i = c.loop-stored.invariant in
-    i.4
+    c.loop-stored.invariant.4
 
 pub store_last-requires-clause-dead : goal.store_last-requires-clause-dead
 store_last-requires-clause-dead g c =
-    let i = c.loop-stored.invariant in
-    i.0.dead
+    c.loop-stored.invariant.0.dead
 
 pub store_last-requires-clause-unmade : goal.store_last-requires-clause-unmade
 store_last-requires-clause-unmade g c =
-    let i = c.loop-stored.invariant in
-    i.1
+    c.loop-stored.invariant.1
 
 pub store_last-requires-clause-due : goal.store_last-requires-clause-due
 store_last-requires-clause-due g c =
-    let cells = c.args.self.now in let rd = c.requires.dead in let inside = lists.within cells.passes.items c.args.dead rd.0 rd.2 in
-    let is = some-injective c.index.result.now rd.0 (sym (lists.at_place cells.passes.items c.args.dead c.index.result.now inside c.index.ensures) ∙ rd.2) in
-    let long : length c.index.result.now.new.items ≡ length rd.0.new.items = ap (λ (z : PlainPass). length z.new.items) is in let some_left = redo.left_is cells c.args.dead rd c.requires.unmade in
+    let some_left = redo.left_here c.args.self.now c.args.dead c.requires.dead c.requires.unmade c.index.result.now c.index.ensures in
     let i = c.loop-stored.invariant in
     let due = c.len-due.ensures in let more = c.loop-stored-test.true in let sum = i.3 in omega arith
 
@@ -76,18 +65,15 @@ loop-stored-preserved g c =
 
 pub returns-clause-redone : goal.returns-clause-redone
 returns-clause-redone g c =
-    let i = c.loop-stored.invariant in
-    i.0
+    c.loop-stored.invariant.0
 
 pub returns-clause-unmade : goal.returns-clause-unmade
 returns-clause-unmade g c =
-    let i = c.loop-stored.invariant in
-    i.1
+    c.loop-stored.invariant.1
 
 pub returns-clause-words : goal.returns-clause-words
 returns-clause-words g c =
-    let i = c.loop-stored.invariant in
-    i.2
+    c.loop-stored.invariant.2
 
 pub returns-clause-counted : goal.returns-clause-counted
 returns-clause-counted g c =
@@ -96,9 +82,7 @@ returns-clause-counted g c =
 
 pub returns-clause-stopped : goal.returns-clause-stopped
 returns-clause-stopped g c some_more =
-    let cells = c.args.self.now in let rd = c.requires.dead in let inside = lists.within cells.passes.items c.args.dead rd.0 rd.2 in
-    let is = some-injective c.index.result.now rd.0 (sym (lists.at_place cells.passes.items c.args.dead c.index.result.now inside c.index.ensures) ∙ rd.2) in
-    let long : length c.index.result.now.new.items ≡ length rd.0.new.items = ap (λ (z : PlainPass). length z.new.items) is in let some_left = redo.left_is cells c.args.dead rd c.requires.unmade in
+    let some_left = redo.left_here c.args.self.now c.args.dead c.requires.dead c.requires.unmade c.index.result.now c.index.ensures in
     let i = c.loop-stored.invariant in
     let due = c.len-due.ensures in let sum = i.3 in let over = c.loop-stored-test.false in let most = c.loop-stored.auto.stored-end in absurd (omega arith)
 

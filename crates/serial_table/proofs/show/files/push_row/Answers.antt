@@ -1,20 +1,16 @@
 use Rattle.std.proofs.Common.{◌++◌, ap, ◌∙◌}
-use Rattle.std.specs.Fmt.{decimal}
+use Rattle.std.proofs.lemmas.Result.{on_ok_weaker}
 use Rattle.serial_table.specs.View.{view, lives}
-use Rattle.serial_table.specs.File.{file_view, file_open}
-use Rattle.serial_table.specs.Tables.{column, line, pid_text, user_text, deny_text, access_text, mode_text, lease_column, leases_of_open}
-use Rattle.serial_table.proofs.Adding.{on_ok_seven}
+use Rattle.serial_table.specs.InPlace.{lives_by}
+use Rattle.serial_table.specs.Showing.{lease_text}
+use Rattle.serial_table.specs.Tables.{open_row}
 use Rattle.serial_table.proofs.show.files.push_row.Goals as goal
 
 pub returns : goal.returns
 returns c =
-    let v = view c.args.table.now in
-    let row = c.args.row.now in
-    let o = file_open (lives v) row in
-    on_ok_seven c.push_number_line.result c.args.out.now.items c.push_pid.new.out.items c.push_user.new.out.items c.push_rights.new.out.items c.push_lease.new.out.items c.push_column.new.out.items c.push_column-2.new.out.items c.push_number_line.new.out.items
-    (column 6 (pid_text o)) (column 6 (user_text c.args.setup.now o)) (column 10 (deny_text row.share)) (column 9 (access_text row.access)) (column 6 (mode_text row.access))
-    (column 5 (lease_column (leases_of_open (file_view c.args.file v) o))) (column 12 c.args.info.now.path) (column 12 c.args.info.now.name) (line (decimal row.opened.0))
-    c.in_ok-push_pid.ensures c.in_ok-push_user.ensures c.in_ok-push_rights.ensures
-    (c.in_ok-push_lease.ensures ∙ ap (λ text. c.push_rights.new.out.items ++ column 5 text) c.lease_of.ensures)
-    (c.in_ok-push_column.ensures ∙ ap (λ text. c.push_lease.new.out.items ++ column 12 text) c.bytes.ensures)
-    (c.in_ok-push_column-2.ensures ∙ ap (λ text. c.push_column.new.out.items ++ column 12 text) c.bytes-2.ensures) c.push_number_line.ensures
+    let row = open_row c.args.setup.now c.args.info.now in
+    let old = c.args.out.now.items in
+    on_ok_weaker c.push_open_row.result
+    (λ h. h
+    ∙ ap (λ connected. old ++ row connected c.args.row.now (lease_text c.lease_of-lease.result)) (c.lives-connected.ensures ∙ ap (λ workers. lives_by workers c.args.row.now.owner) c.as_slice.ensures)
+    ∙ ap (λ text. old ++ row (lives (view c.args.table.now) c.args.row.now.owner) c.args.row.now text) c.lease_of-lease.ensures) c.push_open_row.ensures

@@ -1,0 +1,5 @@
+pub mod Lists
+pub mod Telling
+pub mod Counted
+pub mod Found
+mod PageExamples

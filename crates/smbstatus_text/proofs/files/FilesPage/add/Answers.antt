@@ -1,0 +1,15 @@
+use Rattle.std.proofs.Common.{◌++◌, ap, ◌∙◌}
+use Rattle.std.proofs.lemmas.Result.{on_ok_weaker}
+use Rattle.serial_table.specs.File.{file_view}
+use Rattle.serial_table.specs.Tables.{file_rows}
+use Rattle.smbstatus_text.specs.Pages.{told}
+use Rattle.smbstatus_text.proofs.Telling.{opens_next}
+use Rattle.smbstatus_text.proofs.files.FilesPage.add.Goals as goal
+
+pub returns-clause-tells : goal.returns-clause-tells
+returns-clause-tells c =
+    let setup = c.args.setup.now in
+    let file = c.args.rec.now.file in
+    on_ok_weaker c.push_file.result (λ rows. λ v last tells lt none shows.
+    opens_next setup v last file c.args.self.now c.push_file.new.out.items
+    (rows (file_view file v) shows ∙ ap (λ old. old ++ told (file_rows setup) setup.files file (file_view file v)) c.self.view_is) tells lt none) c.push_file.ensures

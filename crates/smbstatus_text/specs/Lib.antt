@@ -1,0 +1,4 @@
+pub mod Shown
+pub mod Pages
+pub mod Rows
+pub mod Opens
