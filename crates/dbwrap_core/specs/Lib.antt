@@ -6,3 +6,4 @@ pub mod Fresh
 pub mod Begun
 pub mod Dying
 pub mod Redone
+pub mod Told

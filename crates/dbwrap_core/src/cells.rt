@@ -4,6 +4,7 @@ ghost use Rattle.turn_types.specs.Shown.{Shown, AllBelow, RisesFrom, Within, is_
 ghost use Rattle.turn_types.specs.Calls.{Able, Tried, Learnt, Kept, Planned, Abandoned, Stored, Released, Fits, HasDied, Asked};
 ghost use Rattle.turn_types.specs.Ends.{Committing, Recovered};
 ghost use Rattle.turn_types.specs.Beside.{Beside, WhereTold, Leaves, Tells, Lives, Names, BuriesTheDead, Frees};
+ghost use Rattle.dbwrap_core.specs.Told.{Told};
 
 use chain_map::Chain;
 use sid_core::{Entry, OutOfMemory};
@@ -142,6 +143,10 @@ pub trait Cells {
         ensures recovered { Recovered dead stop (shown self.old) (shown self.new) result }
         ensures never { (by : ℕ) → result ≡ Recover.Other by → ⊥ }
         ensures frees { WhereTold (Frees Self.Rule.step dead result) (beside self.old) (beside self.new) };
+
+    /// What the pass knows of what stands beside it, between two calls. Does nothing.
+    fn tell(&self)
+        ensures { IfSome (beside self.now) (Told Self.Rule.first Self.Rule.step Self.Rule.legal Self.Rule.follows (shown self.now)) };
 
     /// The pass's number.
     fn number(&self) -> u32

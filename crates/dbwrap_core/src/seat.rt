@@ -85,6 +85,10 @@ impl<R: Replay> Cells for PlainSeat<'_, R> {
         self.cells.recover(self.pass, dead, stop)
     }
 
+    fn tell(&self) {
+        self.cells.tell();
+    }
+
     fn number(&self) -> u32 {
         self.cells.number(self.pass)
     }

@@ -1,4 +1,4 @@
-ghost use Rattle.std.specs.Prelude.{◌≡◌, ◌≤◌, ◌<◌, ◌*◌, ◌++◌, ◌∷◌, [], OnOk, IfErr, OnErr, Option, List, ℕ};
+ghost use Rattle.std.specs.Prelude.{◌≡◌, ◌≤◌, ◌<◌, ◌*◌, ◌++◌, ◌∷◌, [], true, OnOk, IfErr, OnErr, Option, List, ℕ};
 ghost use Rattle.std.specs.Option.{option_copied};
 ghost use mathlib.Core.Option.{some};
 ghost use Rattle.std.specs.Borrow.{Bor};
@@ -145,6 +145,14 @@ impl<'a, C: Cells, G: Gate> Txn<'a, C, G> {
     {
         let Txn { cells, teller, .. } = self;
         give_all_back(cells, &teller);
+    }
+
+    /// Ends a transaction that holds nothing, or whose pass has died. The cells are as they stand. Takes no memory.
+    pub fn leave(self)
+        requires ended { (C.shown self.cells.now).alive ≡ true → (C.shown self.cells.now).held ≡ [] }
+        ensures same { self.exit.0.now ≡ self.entry.cells.now }
+    {
+        let Txn { cells: _, .. } = self;
     }
 }
 

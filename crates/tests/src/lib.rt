@@ -22,6 +22,8 @@ mod data;
 #[cfg(test)]
 mod durable;
 #[cfg(test)]
+mod hand;
+#[cfg(test)]
 mod leases;
 #[cfg(test)]
 mod lines;

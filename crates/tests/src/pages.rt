@@ -1,4 +1,6 @@
 //! The tables of `examples/smbstatus_tables`, from records that also have an open, a range and a lease of a worker that has died.
+ghost use Rattle.std.specs.Prelude.{◌≡◌, ◌<◌, IfOk};
+
 use leases_db::Leases;
 use record_codec::{
     LeaseRec, LeaseRef, RangeItem, RangeRec, RegisterRec, ShareEntry, ShareRec, SmallText,
@@ -160,7 +162,9 @@ fn id(pid: u32, call: u32) -> OpenId {
     OpenId { pid, call }
 }
 
-fn opens(alloc: Global, file: u32, entries: &[ShareEntry]) -> Result<ShareRec, OutOfMemory> {
+fn opens(alloc: Global, file: u32, entries: &[ShareEntry]) -> Result<ShareRec, OutOfMemory>
+    ensures { IfOk result (λ rec. rec.file ≡ file) }
+{
     Ok(ShareRec {
         file,
         path: SmallText::from_slice(alloc, b"/srv")?,
@@ -171,13 +175,17 @@ fn opens(alloc: Global, file: u32, entries: &[ShareEntry]) -> Result<ShareRec, O
     })
 }
 
-fn opens_of_one(alloc: Global) -> Result<ShareRec, OutOfMemory> {
+fn opens_of_one(alloc: Global) -> Result<ShareRec, OutOfMemory>
+    ensures { IfOk result (λ rec. rec.file ≡ 1) }
+{
     let dead = opened(id(104, 1), 1, 1, 7, Some(FIVE), 0, 5);
     let durable = opened(id(101, 1), 1, 3, 7, Some(SEVEN), 60, 10);
     opens(alloc, 1, &[dead, durable])
 }
 
-fn opens_of_two(alloc: Global) -> Result<ShareRec, OutOfMemory> {
+fn opens_of_two(alloc: Global) -> Result<ShareRec, OutOfMemory>
+    ensures { IfOk result (λ rec. rec.file ≡ 2) }
+{
     let first = opened(id(101, 4), 2, 0x12_0089, 1, None, 0, 10);
     let second = opened(id(102, 2), 1, 1, 3, None, 0, 20);
     opens(alloc, 2, &[first, second])
@@ -197,7 +205,9 @@ fn range(id: OpenId, start: u64, length: u64, mode: Mode) -> RangeItem {
     }
 }
 
-fn ranges(alloc: Global, file: u32, ranges: &[RangeItem]) -> Result<RangeRec, OutOfMemory> {
+fn ranges(alloc: Global, file: u32, ranges: &[RangeItem]) -> Result<RangeRec, OutOfMemory>
+    ensures { IfOk result (λ rec. rec.file ≡ file) }
+{
     Ok(RangeRec {
         file,
         ranges: Items::from_vec(Vec::from_slice(alloc, ranges)?),

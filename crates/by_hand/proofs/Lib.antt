@@ -1,0 +1,7 @@
+mod Holding
+mod Deciding
+mod Idling
+mod Plainly
+mod Row
+mod Setting
+mod Beginning
