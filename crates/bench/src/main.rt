@@ -1,6 +1,6 @@
 //! Works on chains, records and tables over and over, so that a profiler can tell what a call costs. Each line of the input
 //! has an operation, a size and how often it is done, and for a chain the order in which its keys came: `find 1250 100
-//! random`, `pack 10 100`, `close 500 100` or `living 10 100`. Its answer is a sum that depends on what was done.
+//! random`, `pack 10 100`, `close 500 100`, `txn 6 100` or `living 10 100`. Its answer is a sum that depends on what was done.
 #![tactic(auto)]
 
 mod chains;
@@ -12,6 +12,7 @@ use anyhow::{Context, Result};
 use chains::{ChainWork, Order};
 use records::RecordWork;
 use std::alloc::Global;
+use txn_work::transact;
 
 fn main(rt: HostRuntime) -> Result<()> {
     let alloc = rt.alloc();
@@ -32,6 +33,10 @@ fn answer(alloc: Global, line: &str) -> Result<u64> {
     }
     if word == "close" {
         return tables::count(alloc, size, times);
+    }
+    if word == "txn" {
+        transact(alloc, size == 6, 18, times)?;
+        return Ok(times.into());
     }
     let how = words.next().unwrap_or("");
     let Some(work) = ChainWork::named(word) else {

@@ -1,0 +1,3 @@
+pub mod Stamps
+pub mod Law
+pub mod Ready
