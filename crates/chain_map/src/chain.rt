@@ -117,19 +117,18 @@ impl Chain {
     pub fn copy(&self) -> Result<Chain, OutOfMemory>
         ensures { IfOk result (λ chain. chain ≡ self.now) }
     {
-        let base = self.base.clone()?;
-        let rest = if self.marks.is_word() {
-            Vec::new(self.over.allocator())
-        } else {
-            self.marks.copy_rest()?
-        };
         let over = if self.over.is_empty() {
             Over::new(self.over.allocator())
         } else {
             self.over.copy()?
         };
+        let rest = if self.marks.is_word() {
+            Vec::new(self.over.allocator())
+        } else {
+            self.marks.copy_rest()?
+        };
         Ok(Chain {
-            base,
+            base: self.base.clone()?,
             over,
             marks: self.marks.copy_with(rest),
             is_due: !self.over.is_empty(),

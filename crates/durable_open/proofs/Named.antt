@@ -16,22 +16,9 @@ use Rattle.record_codec.specs.declared.lease_rec.LeaseRec.{LeaseRec}
 use Rattle.record_codec.specs.declared.register_rec.RegisterRec.{RegisterRec}
 use Rattle.leases_db.specs.Names.{name_cmp}
 use Rattle.leases_db.specs.Refs.{without}
+use Rattle.leases_db.proofs.Maps.{get_inserted}
 use Rattle.durable_open.specs.Keeping.{is_kept_by}
 use Rattle.durable_open.specs.Sweep.{once_dropped}
-
-total : IsTotalOrder name_cmp
-total = then_total (on_total (λ n. n.guid) nat_cmp_total) (on_total (λ n. n.key) nat_cmp_total)
-
-both_equal : (r s : Ordering) → is_eq (ordering_then r s) ≡ (is_eq r && is_eq s)
-both_equal Less s = refl
-both_equal Equal s = refl
-both_equal Greater s = refl
-
-same_by_cmp : (a b : LeaseName) → eq_by_cmp name_cmp a b ≡ same_name a b
-same_by_cmp a b = both_equal (nat_cmp a.guid b.guid) (nat_cmp a.key b.key) ∙ (λ i. unsigned_tied a.guid b.guid i && unsigned_tied a.key b.key i)
-
-get_inserted : (m : FinMap name_cmp LeaseRec) (k : LeaseName) (w : LeaseRec) (q : LeaseName) → get (insert m k w) q ≡ cond (same_name q k) (Some w) (get m q)
-get_inserted m k w q = get-insert total m k w q ∙ ap (λ b. cond b (Some w) (get m q)) (same_by_cmp q k)
 
 pub on_some_at : {A : Type 0} (r : Option A) (x : A) (P : Type 0) → r ≡ Some x → OnSome r P → P
 on_some_at r x P e h = subst (λ o. OnSome o P) e h

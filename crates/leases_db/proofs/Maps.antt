@@ -38,6 +38,18 @@ both Greater s e = absurd (subst (λ r. Matches r) (sym e) tt)
     Matches Equal = Unit {0}
     Matches Greater = ⊥
 
+both_equal : (r s : Ordering) → is_eq (ordering_then r s) ≡ (is_eq r && is_eq s)
+both_equal Less s = refl
+both_equal Equal s = refl
+both_equal Greater s = refl
+
+same_by_cmp : (a b : LeaseName) → eq_by_cmp name_cmp a b ≡ same_name a b
+same_by_cmp a b = both_equal (nat_cmp a.guid b.guid) (nat_cmp a.key b.key) ∙ (λ i. unsigned_tied a.guid b.guid i && unsigned_tied a.key b.key i)
+
+-- what a map has after a record is put
+pub get_inserted : {X : Type 0} (m : FinMap name_cmp X) (k : LeaseName) (w : X) (q : LeaseName) → get (insert m k w) q ≡ cond (same_name q k) (Some w) (get m q)
+get_inserted m k w q = get-insert total m k w q ∙ ap (λ b. cond b (Some w) (get m q)) (same_by_cmp q k)
+
 antisymmetric : IsAntisymmetric name_cmp
 antisymmetric x y e =
     let b = both (nat_cmp x.guid y.guid) (nat_cmp x.key y.key) e in

@@ -126,6 +126,10 @@ abbrev pub with_lease : Option LeaseName → List LeaseName → List LeaseName
 with_lease None names = names
 with_lease (Some name) names = with_name name names
 
+-- the map has these names and no other
+abbrev pub AreMet : List LeaseName → FinMap name_cmp (Unit {0}) → Type 0
+AreMet names met = (name : LeaseName) → is_none (map.get met name) ≡ not (list_any (same_name name) names)
+
 -- the answer where no open refuses
 abbrev pub IsBreaks : List LeaseName → Violates → Type 0
 IsBreaks names Nothing = names ≡ []

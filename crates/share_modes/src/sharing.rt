@@ -2,7 +2,6 @@ ghost use Rattle.std.specs.Prelude.{◌≡◌, ◌++◌, ◌∷◌, [], ℕ, IfO
 ghost use Rattle.std.specs.List.{list_any, filter_map};
 ghost use Rattle.std.specs.Option.{option_map, option_map_or};
 ghost use Rattle.std.specs.FinMap as map;
-ghost use Rattle.sid_core.specs.Ids.{same_name};
 ghost use Rattle.sid_core.specs.Values.{has};
 ghost use Rattle.serial_table.specs.Share as table;
 ghost use Rattle.serial_table.specs.View.{carries};
@@ -11,11 +10,11 @@ ghost use Rattle.serial_table.specs.Break.{each_once};
 ghost use Rattle.record_codec.specs.Counts as counts;
 ghost use Rattle.server_ids.specs.Sessions.{registered};
 ghost use Rattle.share_modes.specs.Entries.{known, leased};
-ghost use Rattle.share_modes.specs.Sharing.{OpenCall, AsksLease, conflicting, refuses, shown, has_refs, keeps_handle, entry_conflicts, is_held_under, is_own_held, entry_refuses, conflict_lease, with_name, with_lease, first_refusal, is_refused, Meets, IsBreaks};
+ghost use Rattle.share_modes.specs.Sharing.{OpenCall, AsksLease, conflicting, refuses, shown, has_refs, keeps_handle, entry_conflicts, is_held_under, is_own_held, entry_refuses, conflict_lease, with_name, with_lease, AreMet, first_refusal, is_refused, Meets, IsBreaks};
 
 use crate::asked::{Asked, Violates};
 use bitflags::Flags;
-use leases_db::Leases;
+use leases_db::{ByName, Leases};
 use record_codec::{LeaseRec, LeaseRef, ShareEntry};
 use server_ids::{Register, living};
 use sid_core::{LeaseName, LeaseState, OpenId, OutOfMemory};
@@ -125,30 +124,38 @@ fn conflict_lease(asked: &Asked, entry: &ShareEntry) -> Option<LeaseName>
     }
 }
 
-fn has_met(met: &[LeaseName], name: LeaseName) -> bool
-    ensures { result ≡ list_any (same_name name) met.now }
+fn add_name(
+    names: &mut Vec<LeaseName>,
+    met: &mut ByName<()>,
+    name: LeaseName,
+) -> Result<(), OutOfMemory>
+    requires { AreMet names.old.items met.old }
+    ensures names { OnOk result (names.new.items ≡ with_name name names.old.items) }
+    ensures met { OnOk result (AreMet names.new.items met.new) }
 {
-    met.iter().any(|other| name == *other)
-}
-
-fn add_name(names: &mut Vec<LeaseName>, name: LeaseName) -> Result<(), OutOfMemory>
-    ensures { OnOk result (names.new.items ≡ with_name name names.old.items) }
-{
-    if !has_met(names.as_slice(), name) {
+    if met.get(name).is_none() {
+        met.put(name, ())?;
         names.push(name)?;
     }
     Ok(())
 }
 
-fn add_lease(names: &mut Vec<LeaseName>, lease: Option<LeaseName>) -> Result<(), OutOfMemory>
-    ensures { OnOk result (names.new.items ≡ with_lease lease names.old.items) }
+fn add_lease(
+    names: &mut Vec<LeaseName>,
+    met: &mut ByName<()>,
+    lease: Option<LeaseName>,
+) -> Result<(), OutOfMemory>
+    requires { AreMet names.old.items met.old }
+    ensures names { OnOk result (names.new.items ≡ with_lease lease names.old.items) }
+    ensures met { OnOk result (AreMet names.new.items met.new) }
 {
     match lease {
-        Some(name) => add_name(names, name),
+        Some(name) => add_name(names, met, name),
         None => Ok(()),
     }
 }
 
+// An ordered map tells which leases were met, so that many leases aren't looked through for each.
 fn names_in_conflict(
     alloc: Global,
     asked: &Asked,
@@ -157,8 +164,9 @@ fn names_in_conflict(
     ensures { IfOk result (λ names. names.items ≡ each_once [] (filter_map (conflict_lease asked.now) valid.now)) }
 {
     let mut names = Vec::new(alloc);
+    let mut met = ByName::new(alloc);
     for entry in valid {
-        add_lease(&mut names, conflict_lease(asked, entry))?;
+        add_lease(&mut names, &mut met, conflict_lease(asked, entry))?;
     }
     Ok(names)
 }
@@ -179,7 +187,8 @@ fn breaks(alloc: Global, asked: &Asked, valid: &[ShareEntry]) -> Violates
 }
 
 /// What an `open` meets of the opens of its file that count, once the leases are settled: none that conflicts, one that
-/// refuses it, or some whose leases have to be broken first. Only the list of these leases takes memory.
+/// refuses it, or some whose leases have to be broken first. Only the list of these leases takes memory, and a
+/// map of them, so that a lease that many opens have costs each a logarithm of their number.
 pub fn violates(
     alloc: Global,
     asked: Asked,
