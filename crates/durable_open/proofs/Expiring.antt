@@ -1,5 +1,5 @@
 -- Opens that go one after another are those that go by the leases before.
-use Rattle.std.proofs.Common.{◌≡◌, ◌&&◌, ◌||◌, ◌==◌, not, ℕ, ◌+◌, Bool, true, false, cond, List, [], ◌∷◌, length, filter, map, Option, Some, None, refl, ap, sym, subst, ◌∙◌, arith}
+use Rattle.std.proofs.Common.{◌≡◌, ◌&&◌, ◌||◌, ◌==◌, not, ℕ, ◌+◌, Bool, true, false, cond, List, [], ◌∷◌, length, filter, map, Option, Some, None, refl, ap, sym, ◌∙◌, arith}
 use Rattle.std.specs.Prelude.{nat_le, find}
 use Rattle.std.specs.List.{list_any, AllByRecursion, IsDistinct}
 use Rattle.std.specs.Option.{option_map, option_map_or}
@@ -21,7 +21,6 @@ use Rattle.serial_table.specs.View.{View, carries}
 use Rattle.serial_table.specs.Durable.{deadline, is_expired}
 use Rattle.serial_table.proofs.SameIds.{same_id-eq, same_name-eq}
 use Rattle.record_codec.specs.declared.share_rec.ShareEntry.{ShareEntry}
-use Rattle.record_codec.specs.declared.lease_rec.LeaseRef.{LeaseRef}
 use Rattle.record_codec.specs.declared.lease_rec.LeaseRec.{LeaseRec}
 use Rattle.record_codec.specs.declared.register_rec.RegisterRec.{RegisterRec}
 use Rattle.record_codec.specs.Counts.{is_connected, settled_state, keeps, is_kept, entry_counts}

@@ -1,5 +1,5 @@
 -- What the table decides of a `reconnect` is what the records tell.
-use Rattle.std.proofs.Common.{◌≡◌, ◌&&◌, ◌||◌, ◌==◌, not, ℕ, ◌+◌, ◌<◌, ◌≤◌, Bool, true, false, cond, List, [], ◌∷◌, length, filter, map, Option, Some, None, refl, ap, sym, subst, ◌∙◌, eq-eqb, arith}
+use Rattle.std.proofs.Common.{◌≡◌, ◌&&◌, ◌||◌, ◌==◌, not, ℕ, ◌+◌, ◌≤◌, Bool, true, false, cond, List, [], ◌∷◌, length, filter, map, Option, Some, None, refl, ap, sym, subst, ◌∙◌, eq-eqb, arith}
 use Rattle.std.specs.Prelude.{nat_lt, find}
 use Rattle.std.specs.List.{list_any, AllByRecursion}
 use Rattle.std.specs.Option.{option_map, option_map_or}
@@ -13,21 +13,18 @@ use Rattle.sid_core.specs.declared.ids.OpenId.{OpenId}
 use Rattle.sid_core.specs.declared.ids.LeaseName.{LeaseName}
 use Rattle.sid_core.specs.declared.ids.Moment.{Moment}
 use Rattle.sid_core.specs.declared.setup.Setup.{Setup}
-use Rattle.sid_core.specs.declared.bits.LeaseState.{LeaseState}
 use Rattle.sid_core.specs.declared.reply.Reply.TheVariants.{Granted, ObjectNameNotFound}
-use Rattle.sid_core.specs.Ids.{same_id, same_sid, same_name}
+use Rattle.sid_core.specs.Ids.{same_id, same_sid}
 use Rattle.serial_table.specs.declared.rows.OpenRow.{OpenRow}
 use Rattle.serial_table.specs.declared.rows.LeaseRow.{LeaseRow}
 use Rattle.serial_table.specs.declared.rows.WorkerRow.{WorkerRow}
 use Rattle.serial_table.specs.declared.change.Change.TheVariants.{TakeOver}
-use Rattle.serial_table.specs.declared.decision.Caller.{Caller}
-use Rattle.serial_table.specs.declared.decision.Decision.{Decision}
 use Rattle.serial_table.specs.View.{View, carries, leases_at}
 use Rattle.serial_table.specs.View as table
 use Rattle.serial_table.specs.Change.{new_owner}
 use Rattle.serial_table.specs.Decision.{only_reply}
 use Rattle.serial_table.specs.Durable.{deadline, can_be_taken}
-use Rattle.serial_table.specs.Reconnect.{take_over, reconnect_first, made_by, reconnect}
+use Rattle.serial_table.specs.Reconnect.{take_over, reconnect_first, reconnect}
 use Rattle.serial_table.proofs.SameIds.{same_id-eq, same_name-eq}
 use Rattle.record_codec.specs.declared.share_rec.ShareEntry.{ShareEntry}
 use Rattle.record_codec.specs.declared.share_rec.ShareRec.{ShareRec}
@@ -36,7 +33,7 @@ use Rattle.record_codec.specs.declared.register_rec.RegisterRec.{RegisterRec}
 use Rattle.record_codec.specs.Counts.{is_current, keeps, is_kept, entry_counts}
 use Rattle.server_ids.specs.Sessions.{registered, worker_row}
 use Rattle.record_rows.specs.Rows.{lease_row, open_row}
-use Rattle.leases_db.proofs.Lists.{any_of_filter, any_of_map}
+use Rattle.leases_db.proofs.Lists.{any_of_filter}
 use Rattle.durable_open.specs.Deadlines.{ShowsSessions, sessions_of}
 use Rattle.durable_open.specs.Taking.{settled, is_taken, with_owner, taken_over, row_after}
 use Rattle.durable_open.specs.Naming.{recorded, caller_of, Names, answer}

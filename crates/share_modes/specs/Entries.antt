@@ -1,5 +1,5 @@
 -- The entries of a share mode record, as a table has them, and how they come and go.
-use Rattle.std.specs.Prelude.{ℕ, Bool, not, [], ◌∷◌, ◌++◌, None, filter}
+use Rattle.std.specs.Prelude.{Bool, not, [], ◌∷◌, ◌++◌, None, filter}
 use Rattle.std.specs.Ordering.{nat_cmp}
 use Rattle.std.specs.FinMap as map
 use Rattle.std.specs.FinMap.{FinMap}

@@ -1,7 +1,9 @@
 -- What an open meets of the opens of its file.
-use Rattle.std.specs.Prelude.{◌≡◌, ℕ, Bool, true, false, ◌&&◌, ◌||◌, not, List, [], ◌∷◌, ◌++◌, Option, Some, None, map, find, if◌then◌else◌}
+use Rattle.std.specs.Prelude.{◌≡◌, ℕ, Bool, true, false, ◌&&◌, ◌||◌, not, is_none, List, [], ◌∷◌, ◌++◌, Option, Some, None, map, find, if◌then◌else◌}
 use Rattle.std.specs.List.{list_any}
 use Rattle.std.specs.Option.{option_map, option_map_or}
+use Rattle.std.specs.FinMap as map
+use Rattle.std.specs.FinMap.{FinMap}
 use Rattle.sid_core.specs.declared.ids.Sid.{Sid}
 use Rattle.sid_core.specs.declared.ids.OpenId.{OpenId}
 use Rattle.sid_core.specs.declared.ids.LeaseName.{LeaseName}
@@ -19,6 +21,7 @@ use Rattle.record_codec.specs.declared.share_rec.ShareEntry.{ShareEntry}
 use Rattle.record_codec.specs.declared.lease_rec.LeaseRef.{LeaseRef}
 use Rattle.record_codec.specs.declared.lease_rec.LeaseRec.{LeaseRec}
 use Rattle.record_codec.specs.Counts.{Records, lives}
+use Rattle.leases_db.specs.Names.{name_cmp}
 use Rattle.leases_db.specs.Rows.{leases_by}
 use Rattle.record_rows.specs.Rows.{open_row}
 use Rattle.share_modes.specs.declared.asked.Asked.{Asked}
