@@ -12,11 +12,15 @@ use Rattle.sid_core.specs.declared.outside.Point.{Point}
 use Rattle.chain_map.specs.Pairs.{Pairs}
 use Rattle.turn_types.specs.Journal.{Chains, Agree, Lawful, has, of_pass}
 use Rattle.turn_types.specs.Shown.{Shown, Numbered, Nothing, RisesFrom, IsPart, look, or_else, replay}
-use Rattle.turn_types.specs.Calls.{Lawfully}
+use Rattle.turn_types.specs.Calls.{Able, Lawfully}
 use Rattle.turn_types.specs.Beside.{Beside, WhereTold, Leaves}
 use Rattle.turn_types.proofs.Runs as runs
 use Rattle.dbwrap_core.specs.Told.{Told}
-use Rattle.record_txn.specs.Finishing.{MayFinish, next_entry}
+use Rattle.record_txn.specs.Goes.{Goes}
+use Rattle.record_txn.specs.Finishing.{Finished, MayFinish, next_entry}
+use Rattle.record_txn.specs.declared.finish.Finish.{Finish}
+use Rattle.record_txn.specs.declared.finish.Finish.TheVariants as finish
+use Rattle.record_txn.proofs.Going.{goes_on}
 use Rattle.record_txn.specs.Hand.{chains_of, chain_in}
 use Rattle.record_txn.specs.Open.{IsOpen}
 use Rattle.record_txn.specs.declared.hand.Held.{Held}
@@ -27,7 +31,7 @@ use Rattle.by_hand.specs.Decided.{IsDecided, IsDecidedBeside, asked_chain, is_in
 use Rattle.by_hand.specs.declared.change.Change.{Change}
 use Rattle.by_hand.specs.declared.change.Choice.{Choice}
 use Rattle.by_hand.specs.declared.change.Decision.{Decision}
-use Rattle.by_hand.proofs.Holding.{numbers_hold, has_found, found_has}
+use Rattle.by_hand.proofs.Holding.{numbers_hold, has_found, found_has, done_left, only_done, undone_left}
 
 pub place_is : {A : Type 0} (xs : List A) (n : ℕ) (x d : A) → get_elem? xs n ≡ some x → slice_index_or xs n d ≡ x
 place_is [] n x d e = absurd (some-ne-none x (sym e))
@@ -157,13 +161,56 @@ module _ {R : Type 0} (first : R → Chains → Type 0) (step : R → Chains →
 -- ---- what is decided beside a pass, once its chains are held
 
 module _ {R : Type 0} (first : R → Chains → Type 0) (step : R → Chains → Entry → Chains) (legal : R → Chains → Entry → Type 0) (follows : R → List Entry → Entry → Type 0) (buries : R → Entry → std.Option ℕ) (names : R → Chains → Entry → List ℕ)
-    (v w : Shown R) (o p : std.Option (Beside R)) (n : ℕ) (x : Decision) (hand : Numbered)
-    (t : HasTaken v w x.footprint.now hand) (l : WhereTold (Leaves v w) o p) (d : IsDecidedBeside step legal follows buries names n v o x) (tells : IfSome p (Told first step legal follows w)) (lives : w.alive ≡ true) (unplanned : w.plan ≡ Nothing) where
+    (v w : Shown R) (o p : std.Option (Beside R)) (n : ℕ) (x : Decision) (hand : Numbered) where
+  -- The pass showed v and was decided for; it shows w now, and holds the footprint.
+  pub record HoldsFor : Type 0 where
+    pub taken : HasTaken v w x.footprint.now hand
+    pub beside : WhereTold (Leaves v w) o p
+    pub decided : IsDecidedBeside step legal follows buries names n v o x
+    pub told : IfSome p (Told first step legal follows w)
+    pub able : Able w
+    pub unplanned : w.plan ≡ Nothing
+
+-- the choice by what a fetch found, where a transaction has as many chains as were decided for
+pub choice_found : (x : Decision) (hand : Numbered) (m n : ℕ) (there : Bool) (choice : Choice) → choice ≡ choice_of there x → there ≡ is_in x (chain_in (asked_chain m x) hand) → m ≡ n
+    → choice ≡ choice_of (is_in x (chain_in (asked_chain n x) hand)) x
+choice_found x hand m n there choice is found same = is ∙ ap (λ b. choice_of b x) (found ∙ ap (λ k. is_in x (chain_in (asked_chain k x) hand)) same)
+
+module _ {S R : Type 0} (bond_of : S → ℕ × ℕ) (count_of : S → ℕ) (quiet_of : S → Type 0) (shown_of : S → Shown R) (beside_of : S → std.Option (Beside R)) where
+  -- cells that a transaction began with, then held, changed in hand and left
+  pub goes_since : (s began held changed left : S) → began ≡ s → Goes bond_of count_of quiet_of shown_of beside_of began held → changed ≡ held → Goes bond_of count_of quiet_of shown_of beside_of changed left
+      → Goes bond_of count_of quiet_of shown_of beside_of s left
+  goes_since s began held changed left begins goes same more =
+      goes_on bond_of count_of quiet_of shown_of beside_of s changed left
+      (subst (λ t. Goes bond_of count_of quiet_of shown_of beside_of s t) (sym same) (subst (λ t. Goes bond_of count_of quiet_of shown_of beside_of t held) begins goes)) more
+
+  pub holds_for : (first : R → Chains → Type 0) (step : R → Chains → Entry → Chains) (legal : R → Chains → Entry → Type 0) (follows : R → List Entry → Entry → Type 0) (buries : R → Entry → std.Option ℕ) (names : R → Chains → Entry → List ℕ)
+      (s began held : S) (n chains : ℕ) (x : Decision) (stop : std.Option Point) (in_hand : List Held) → began ≡ s → Goes bond_of count_of quiet_of shown_of beside_of began held
+      → HasTaken (shown_of began) (shown_of held) x.footprint.now (chains_of in_hand) → IsOpen step legal follows buries (quiet_of held) (count_of held) chains stop in_hand (shown_of held)
+      → IsDecidedBeside step legal follows buries names n (shown_of s) (beside_of s) x → IfSome (beside_of held) (Told first step legal follows (shown_of held))
+      → HoldsFor first step legal follows buries names (shown_of s) (shown_of held) (beside_of s) (beside_of held) n x (chains_of in_hand)
+  holds_for first step legal follows buries names s began held n chains x stop in_hand begins goes taken opened decided told = record {
+    taken = subst (λ t. HasTaken (shown_of t) (shown_of held) x.footprint.now (chains_of in_hand)) begins taken;
+    beside = (subst (λ t. Goes bond_of count_of quiet_of shown_of beside_of t held) begins goes).beside;
+    decided = decided;
+    told = told;
+    able = opened.able;
+    unplanned = opened.unplanned;
+  }
+
+module _ {R : Type 0} (first : R → Chains → Type 0) (step : R → Chains → Entry → Chains) (legal : R → Chains → Entry → Type 0) (follows : R → List Entry → Entry → Type 0) (buries : R → Entry → std.Option ℕ) (names : R → Chains → Entry → List ℕ)
+    (v w : Shown R) (o p : std.Option (Beside R)) (n : ℕ) (x : Decision) (hand : Numbered) (h : HoldsFor first step legal follows buries names v w o p n x hand) where
+  abbrev t : HasTaken v w x.footprint.now hand
+  t = h.taken
+
+  abbrev d : IsDecidedBeside step legal follows buries names n v o x
+  d = h.decided
+
   now : (b : Beside R) × (p ≡ std.Some b) × (b.journal ≡ d.b.journal)
-  now = told_still v w o p d.b x.footprint.now hand t l d.told
+  now = told_still v w o p d.b x.footprint.now hand t h.beside d.told
 
   told : Told first step legal follows w now.0
-  told = subst (λ (q : std.Option (Beside R)). IfSome q (Told first step legal follows w)) now.1 tells
+  told = subst (λ (q : std.Option (Beside R)). IfSome q (Told first step legal follows w)) now.1 h.told
 
   -- the chain that has the record is in hand
   pub asked_held : (y : Pairs) × (look (asked_chain n x) hand ≡ some y)
@@ -175,7 +222,7 @@ module _ {R : Type 0} (first : R → Chains → Type 0) (step : R → Chains →
   -- what is in hand decides as the chains do
   pub chosen_is : choice_of (is_in x (chain_in (asked_chain n x) hand)) x ≡ chosen n (replay step v d.b.journal) x
   chosen_is = let c = asked_chain n x in let y = asked_held in
-      let there : chain_at (replay step v d.b.journal) c ≡ y.0 = place_is (replay step v d.b.journal) c y.0 [] (ap (λ (k : Chains). get_elem? k c) (sym same_made) ∙ told.held lives unplanned c y.0 (ap (λ (k : Numbered). look c k) t.held ∙ y.1)) in
+      let there : chain_at (replay step v d.b.journal) c ≡ y.0 = place_is (replay step v d.b.journal) c y.0 [] (ap (λ (k : Chains). get_elem? k c) (sym same_made) ∙ told.held h.able.lives h.unplanned c y.0 (ap (λ (k : Numbered). look c k) t.held ∙ y.1)) in
       ap (λ (z : Pairs). choice_of (is_in x z) x) (ap (λ (z : Option Pairs). or_else z []) y.1 ∙ sym there)
 
   -- the changes are of chains in hand
@@ -190,15 +237,32 @@ module _ {R : Type 0} (first : R → Chains → Type 0) (step : R → Chains →
   finishes lawful choice is_quiet count chains stop in_hand choice_is opened changed =
       let decided : IsDecided step legal follows buries names n v.rule (replay step v d.b.journal) v.own x.footprint.now choice.changes.now (next_entry v choice.event) =
       subst (λ (c : Choice). IsDecided step legal follows buries names n v.rule (replay step v d.b.journal) v.own x.footprint.now c.changes.now (next_entry v c.event)) (sym (choice_is ∙ chosen_is)) d.by.decided in
-      may_finish first step legal follows buries names lawful w (next_entry w choice.event) now.0 n x.footprint.now choice.changes.now (chains_of in_hand) refl told lives unplanned
+      may_finish first step legal follows buries names lawful w (next_entry w choice.event) now.0 n x.footprint.now choice.changes.now (chains_of in_hand) refl told h.able.lives h.unplanned
       opened.law opened.rising opened.parts (ap numbers t.held ∙ t.numbered) (decided_still first step legal follows buries names v w d.b.journal now.0.journal n x.footprint.now choice.changes.now hand choice.event t now.2 decided)
       (changed ∙ ap (λ (k : Numbered). with_changes n choice.changes.now k) (sym t.held))
 
   -- and what it leaves is as it was decided
   pub left_is : (u : Shown R) (choice : Choice) → choice ≡ choice_of (is_in x (chain_in (asked_chain n x) hand)) x → HasLeft v u (next_entry w choice.event ∷ [])
       → IfSome o (λ b. HasLeft v u (next_entry v (chosen n (replay step v b.journal) x).event ∷ []))
-  left_is u choice choice_is h =
+  left_is u choice choice_is left =
       let s = t.same in let own : w.own ≡ v.own = s.own ∙ append-nil v.own in
       let entry : next_entry w choice.event ≡ next_entry v (chosen n (replay step v d.b.journal) x).event = λ j. record { by = s.number j; seq = length (own j) + 1; what = ((choice_is ∙ chosen_is) j).event } in
       subst (λ (q : std.Option (Beside R)). IfSome q (λ b. HasLeft v u (next_entry v (chosen n (replay step v b.journal) x).event ∷ []))) (sym d.told)
-      (subst (λ (e : Entry). HasLeft v u (e ∷ [])) entry h)
+      (subst (λ (e : Entry). HasLeft v u (e ∷ [])) entry left)
+
+  -- where it is finished from what is shown still, by a transaction that was to die nowhere
+  pub done_is : (u z : Shown R) (choice : Choice) (stop : std.Option Point) (changes : Numbered) (place : ℕ) → choice ≡ choice_of (is_in x (chain_in (asked_chain n x) hand)) x → u ≡ w → stop ≡ std.None
+      → Finished step legal follows buries stop changes u z (next_entry u choice.event) (finish.Done place)
+      → IfSome o (λ b. HasLeft v z (next_entry v (chosen n (replay step v b.journal) x).event ∷ []))
+  done_is u z choice stop changes place choice_is same never finished =
+      left_is z choice choice_is
+      (done_left step legal follows buries changes x.footprint.now hand v w z (next_entry w choice.event) place t h.able
+      (subst (λ y. Finished step legal follows buries y changes w z (next_entry w choice.event) (finish.Done place)) never
+      (subst (λ y. Finished step legal follows buries stop changes y z (next_entry y choice.event) (finish.Done place)) same finished)))
+
+  pub undone_is : (u z : Shown R) (stop : std.Option Point) (changes : Numbered) (what : Event) (r : Finish) → u ≡ w → stop ≡ std.None → ((place : ℕ) → r ≡ finish.Done place → ⊥)
+      → Finished step legal follows buries stop changes u z (next_entry u what) r → HasLeft v z []
+  undone_is u z stop changes what r same never bare finished =
+      let end : Finished step legal follows buries std.None changes w z (next_entry w what) r =
+      subst (λ y. Finished step legal follows buries y changes w z (next_entry w what) r) never (subst (λ y. Finished step legal follows buries stop changes y z (next_entry y what) r) same finished) in
+      undone_left step legal follows buries changes x.footprint.now hand v w z (next_entry w what) r t h.able end (only_done step legal follows buries changes w z (next_entry w what) r end bare)

@@ -7,14 +7,13 @@ use mathlib.Core.Option.{some, some-ne-none}
 use Rattle.sid_core.specs.declared.entry.Entry.{Entry}
 use Rattle.chain_map.specs.Pairs.{Pairs}
 use Rattle.turn_types.specs.Journal.{Chains, has}
-use Rattle.turn_types.specs.Shown.{Shown, Numbered, AllBelow, look, hold}
+use Rattle.turn_types.specs.Shown.{Shown, Numbered, Plan, Nothing, AllBelow, look, hold}
 use Rattle.turn_types.specs.Calls.{Able}
 use Rattle.record_txn.specs.Hand.{chains_of, with_change, IsHandOf}
 use Rattle.record_txn.specs.Holding.{Holds, Ended}
-use Rattle.record_txn.specs.Finishing.{Finished, IsDropped, has_entry}
+use Rattle.record_txn.specs.Finishing.{Finished, has_entry}
 use Rattle.record_txn.specs.declared.finish.Finish.{Finish}
 use Rattle.record_txn.specs.declared.finish.Finish.TheVariants as finish
-use Rattle.record_txn.specs.Moves.{HasGivenAll}
 use Rattle.record_txn.specs.declared.hand.Held.{Held}
 use Rattle.record_txn.specs.declared.hold.TxnEnd.{TxnEnd}
 use Rattle.record_txn.specs.declared.hold.TxnEnd.TheVariants as ends
@@ -105,45 +104,25 @@ module _ {R : Type 0} where
     numbered = ap numbers is ∙ numbers_snoc c y hand ∙ ap (λ (k : List ℕ). k ++ c ∷ []) t.numbered ∙ sym now_more;
   }
 
-  pub gives_up : (cs : List ℕ) (hand : Numbered) (v u w : Shown R) → HasTaken v u cs hand → Able u → HasGivenAll u w → HasLeft v w []
+  -- what no end of a transaction changes, then what is held and planned
+  abbrev stays : Shown R → R × Chains × ℕ × List Entry × Bool × std.Option ℕ × Numbered × Plan
+  stays s = (s.rule, s.first, s.number, s.own, s.alive, s.recovering, s.held, s.plan)
+
+  -- a pass that gave all back has left
+  pub gives_up : (cs : List ℕ) (hand : Numbered) (v u w : Shown R) → HasTaken v u cs hand → Able u → stays w ≡ stays (record u { held = []; plan = Nothing }) → HasLeft v w []
   gives_up cs hand v u w t able g = record {
-    same = record {
-      rule = ap (λ (s : Shown R). s.rule) g ∙ t.same.rule;
-      first = ap (λ (s : Shown R). s.first) g ∙ t.same.first;
-      number = ap (λ (s : Shown R). s.number) g ∙ t.same.number;
-      own = ap (λ (s : Shown R). s.own) g ∙ t.same.own;
-    };
-    able = record { lives = ap (λ (s : Shown R). s.alive) g ∙ able.lives; recovers_none = ap (λ (s : Shown R). s.recovering) g ∙ able.recovers_none };
-    held = ap (λ (s : Shown R). s.held) g;
-    plan = ap (λ (s : Shown R). s.plan) g;
+    same = record { rule = (λ j. (g j).0) ∙ t.same.rule; first = (λ j. (g j).1) ∙ t.same.first; number = (λ j. (g j).2) ∙ t.same.number; own = (λ j. (g j).3) ∙ t.same.own };
+    able = record { lives = (λ j. (g j).4) ∙ able.lives; recovers_none = (λ j. (g j).5) ∙ able.recovers_none };
+    held = λ j. (g j).6;
+    plan = λ j. (g j).7;
   }
 
   -- a pass that is to die nowhere has left
   pub ends_left : (c : ℕ) (cs : List ℕ) (hand : Numbered) (v u w : Shown R) (end : TxnEnd) → HasTaken v u cs hand → Able u → Ended u w c std.None end → HasLeft v w []
   ends_left c cs hand v u w ends.Died t able (inl e) = absurd cc
   ends_left c cs hand v u w ends.Died t able (inr e) = let no = e.0 in absurd cc
-  ends_left c cs hand v u w (ends.Met dead) t able e = record {
-    same = record {
-      rule = ap (λ (s : Shown R). s.rule) e.shown ∙ t.same.rule;
-      first = ap (λ (s : Shown R). s.first) e.shown ∙ t.same.first;
-      number = ap (λ (s : Shown R). s.number) e.shown ∙ t.same.number;
-      own = ap (λ (s : Shown R). s.own) e.shown ∙ t.same.own;
-    };
-    able = record { lives = ap (λ (s : Shown R). s.alive) e.shown ∙ able.lives; recovers_none = ap (λ (s : Shown R). s.recovering) e.shown ∙ able.recovers_none };
-    held = ap (λ (s : Shown R). s.held) e.shown;
-    plan = ap (λ (s : Shown R). s.plan) e.shown;
-  }
-  ends_left c cs hand v u w ends.OutOfMemory t able e = record {
-    same = record {
-      rule = ap (λ (s : Shown R). s.rule) e.shown ∙ t.same.rule;
-      first = ap (λ (s : Shown R). s.first) e.shown ∙ t.same.first;
-      number = ap (λ (s : Shown R). s.number) e.shown ∙ t.same.number;
-      own = ap (λ (s : Shown R). s.own) e.shown ∙ t.same.own;
-    };
-    able = record { lives = ap (λ (s : Shown R). s.alive) e.shown ∙ able.lives; recovers_none = ap (λ (s : Shown R). s.recovering) e.shown ∙ able.recovers_none };
-    held = ap (λ (s : Shown R). s.held) e.shown;
-    plan = ap (λ (s : Shown R). s.plan) e.shown;
-  }
+  ends_left c cs hand v u w (ends.Met dead) t able e = gives_up cs hand v u w t able (ap stays e.shown)
+  ends_left c cs hand v u w ends.OutOfMemory t able e = gives_up cs hand v u w t able (ap stays e.shown)
 
   -- the entry that was finished is the pass's own now
   pub done_left : (step : R → Chains → Entry → Chains) (legal : R → Chains → Entry → Type 0) (follows : R → List Entry → Entry → Type 0) (buries : R → Entry → std.Option ℕ) (changes : Numbered) (cs : List ℕ) (hand : Numbered) (v u w : Shown R) (e : Entry) (place : ℕ)
@@ -163,27 +142,14 @@ module _ {R : Type 0} where
     plan = ap (λ (s : Shown R). s.plan) g;
   }
 
-  dropped_left : (cs : List ℕ) (hand : Numbered) (v u w : Shown R) → HasTaken v u cs hand → Able u → IsDropped u w → HasLeft v w []
-  dropped_left cs hand v u w t able d = let e = d.shown in record {
-    same = record {
-      rule = ap (λ (s : Shown R). s.rule) e ∙ t.same.rule;
-      first = ap (λ (s : Shown R). s.first) e ∙ t.same.first;
-      number = ap (λ (s : Shown R). s.number) e ∙ t.same.number;
-      own = ap (λ (s : Shown R). s.own) e ∙ t.same.own;
-    };
-    able = record { lives = ap (λ (s : Shown R). s.alive) e ∙ able.lives; recovers_none = ap (λ (s : Shown R). s.recovering) e ∙ able.recovers_none };
-    held = ap (λ (s : Shown R). s.held) e;
-    plan = ap (λ (s : Shown R). s.plan) e;
-  }
-
   -- a pass that wasn't to die and has no entry has left
   pub undone_left : (step : R → Chains → Entry → Chains) (legal : R → Chains → Entry → Type 0) (follows : R → List Entry → Entry → Type 0) (buries : R → Entry → std.Option ℕ) (changes : Numbered) (cs : List ℕ) (hand : Numbered) (v u w : Shown R) (e : Entry) (r : Finish)
       → HasTaken v u cs hand → Able u → Finished step legal follows buries std.None changes u w e r → has_entry r ≡ false → HasLeft v w []
   undone_left step legal follows buries changes cs hand v u w e (finish.Done place) t able f bare = absurd cc
   undone_left step legal follows buries changes cs hand v u w e (finish.Died std.None) t able f bare = let d = f.0 in absurd cc
   undone_left step legal follows buries changes cs hand v u w e (finish.Died (std.Some place)) t able f bare = absurd cc
-  undone_left step legal follows buries changes cs hand v u w e (finish.Busy h) t able f bare = dropped_left cs hand v u w t able f.1
-  undone_left step legal follows buries changes cs hand v u w e finish.OutOfMemory t able f bare = dropped_left cs hand v u w t able f
+  undone_left step legal follows buries changes cs hand v u w e (finish.Busy h) t able f bare = gives_up cs hand v u w t able (ap stays f.1.shown)
+  undone_left step legal follows buries changes cs hand v u w e finish.OutOfMemory t able f bare = gives_up cs hand v u w t able (ap stays f.shown)
 
   -- no pass that wasn't to die has an entry but by Done
   pub only_done : (step : R → Chains → Entry → Chains) (legal : R → Chains → Entry → Type 0) (follows : R → List Entry → Entry → Type 0) (buries : R → Entry → std.Option ℕ) (changes : Numbered) (u w : Shown R) (e : Entry) (r : Finish)
