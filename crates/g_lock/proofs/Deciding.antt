@@ -24,7 +24,7 @@ use Rattle.record_codec.specs.declared.glock_rec.Hold.{Hold}
 use Rattle.record_rows.specs.Rows.{watch_row, hold_row}
 use Rattle.g_lock.specs.Answer.{without_changes, told, first_owner, who_keeps_out, NamesHolder, NamesOther}
 use Rattle.g_lock.specs.Scans.{answered}
-use Rattle.g_lock.proofs.Found.{is_owned, is_others, is_upgrade}
+use Rattle.g_lock.proofs.Found.{is_owned, is_others, is_upgrade, any_is}
 
 -- ---- by what is found
 
@@ -88,14 +88,6 @@ module _ (v : View) (caller : Caller) (key : ℕ) where
       → (blocker : Sid) → cond (other_upgrades v caller key) (only_reply reply.PossibleDeadlock) (wait_for_lock caller key blocker true) ≡ raising_behind caller key true blocker beside
   upgrade_of None o e any blocker = ap (λ b. cond b (only_reply reply.PossibleDeadlock) (wait_for_lock caller key blocker true)) (any ∙ ap (λ o. option_map_or (λ _. true) o false) e)
   upgrade_of (Some watch) o e any blocker = ap (λ b. cond b (only_reply reply.PossibleDeadlock) (wait_for_lock caller key blocker true)) (any ∙ ap (λ o. option_map_or (λ _. true) o false) e)
-
-  any_here : {X : Type 0} (b : Bool) (x : X) (rest : Option X) (c : Bool) → c ≡ option_map_or (λ _. true) rest false → (b || c) ≡ option_map_or (λ _. true) (cond b (Some x) rest) false
-  any_here true x rest c e = refl
-  any_here false x rest c e = e
-
-  any_is : {X : Type 0} (p : X → Bool) (xs : List X) → list_any p xs ≡ option_map_or (λ _. true) (find p xs) false
-  any_is p [] = refl
-  any_is p (x ∷ xs) = any_here (p x) x (find p xs) (list_any p xs) (any_is p xs)
 
   raised_by : (wait : Bool) (first : Option Hold) (beside : Option WatchRec) → find (is_upgrade caller.sid) (v.watches_on (LockOf key)) ≡ option_map watch_row beside
       → option_map_or (λ row. raise v caller key wait (row ∷ [])) (option_map (hold_row key) first) (raise v caller key wait []) ≡ raising caller key wait first beside

@@ -19,6 +19,7 @@ use Rattle.record_codec.specs.declared.lease_rec.LeaseRef.{LeaseRef}
 use Rattle.record_codec.specs.Fields.{IsListOf, is_proper_part_of}
 use Rattle.record_codec.specs.LeaseRec.{IsLeaseRec, IsLeaseRef, IsExpiry}
 use Rattle.record_codec.specs.Counts.{Records, is_unanswered, ref_counts, settled_refs}
+use Rattle.record_codec.proofs.Unbroken.{unbroken_sets}
 use Rattle.sid_core.specs.declared.reply.Reply.TheVariants.{RequestNotAccepted}
 use Rattle.serial_table.specs.declared.decision.Decision.{Decision}
 use Rattle.serial_table.specs.Decision.{only_reply}
@@ -45,19 +46,7 @@ IsBreakIn held None = Unit {0}
 IsBreakIn held (Some b) = IsBreakOf held b
 
 pub with_state_keeps : (held : LeaseState) (b : Option Breaking) (r : LeaseRec) → IsLeaseRec r → IsState held.0 → IsBreakIn held b → IsLeaseRec (with_state held b r)
-with_state_keeps held None r h s i = record {
-  file = h.file;
-  held = s;
-  asked = refl;
-  needed = refl;
-  unbroken_asked = λ _. refl;
-  unbroken_needed = λ _. refl;
-  broken_asked = λ e. absurd cc;
-  broken_needed = λ e. absurd cc;
-  unbroken_until = λ _. refl;
-  broken_until = λ e. absurd cc;
-  refs = h.refs;
-}
+with_state_keeps held None r h s i = unbroken_sets r.file held r.refs h.file s h.refs
 with_state_keeps held (Some b) r h s i = record {
   file = h.file;
   held = s;

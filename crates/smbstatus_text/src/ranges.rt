@@ -105,30 +105,6 @@ fn push_declared(
     )
 }
 
-fn push_file(
-    out: &mut Vec<u8>,
-    setup: &Setup,
-    ranges: &RangeRec,
-    opens: &ShareRec,
-    leases: &Leases,
-    register: &Register,
-) -> Result<(), OutOfMemory>
-    requires { opens.now.file ≡ ranges.now.file }
-    ensures { OnOk result ((f : FileView) → ShowsRanges (known leases.now register.now) ranges.now opens.now f → out.new.items ≡ out.old.items ++ told range_rows setup.now.files ranges.now.file f) }
-{
-    match declared(setup.files.as_slice(), ranges.file) {
-        Some(info) => push_declared(
-            out,
-            info,
-            ranges,
-            opens.entries.as_slice(),
-            leases,
-            register,
-        ),
-        None => Ok(()),
-    }
-}
-
 /// The table that says which byte ranges are locked, while it is made. Contracts see the bytes of the rows that it has so far.
 #[derive(Drop)]
 pub struct RangesPage {
@@ -170,7 +146,17 @@ impl RangesPage {
         ensures tells { OnOk result ((v : View) (last : ℕ) → Tells range_rows v setup.now.files last self.old → last < ranges.now.file → NoneBetween v.ranges_of last ranges.now.file → ShowsRanges (known leases.now register.now) ranges.now opens.now (file_view ranges.now.file v)
             → Tells range_rows v setup.now.files ranges.now.file self.new) }
     {
-        push_file(&mut self.rows, setup, ranges, opens, leases, register)
+        match declared(setup.files.as_slice(), ranges.file) {
+            Some(info) => push_declared(
+                &mut self.rows,
+                info,
+                ranges,
+                opens.entries.as_slice(),
+                leases,
+                register,
+            ),
+            None => Ok(()),
+        }
     }
 
     /// The table of a view whose byte ranges are those of the files that were added.

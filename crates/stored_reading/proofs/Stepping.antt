@@ -25,28 +25,11 @@ use Rattle.stored_table.specs.Move.{move, first_chains}
 use Rattle.stored_table.specs.Stands.{StandsFor}
 use Rattle.stored_table.specs.Decoded.{records_of}
 use Rattle.table_laws.proofs.Chains.{legal_is_fine, flat_joined, counts_before, rises_before}
-use Rattle.table_laws.proofs.HistoryEvents.{history_stands}
+use Rattle.table_laws.proofs.HistoryEvents.{grouped, legal_begin, history_stands}
 use Rattle.table_laws.proofs.Lists.{append_nothing}
 use Rattle.stored_reading.specs.Reading.{view_of_chains}
 use Rattle.stored_reading.specs.Steps.{step, stepped_from, stepped_by, IsLegalAt, IsLegalStep, IsLegalAlike, StepIsMove}
 use Rattle.stored_reading.proofs.Shown.{view_is}
-
--- ---- the beginning of a legal history
-
-grouped : {X : Type 0} (xs ys zs : List X) → (xs ++ ys) ++ zs ≡ xs ++ (ys ++ zs)
-grouped [] ys zs = refl
-grouped (x ∷ xs) ys zs = ap (λ l. x ∷ l) (grouped xs ys zs)
-
-legal_first : (setup : Setup) (t : Table) (first later : List Entry) → AreLegal setup t (first ++ later) → AreLegal setup t first
-legal_first setup t [] later legal = tt
-legal_first setup t (e ∷ first) later legal = (legal.0, legal_first setup (after_entry setup t e) first later legal.1)
-
-pub legal_begin : (setup : Setup) (first later : List Entry) → IsLegal setup (first ++ later) → IsLegal setup first
-legal_begin setup first later legal = record {
-  entries = legal_first setup (start setup) first later legal.entries;
-  counted = λ by. counts_before 1 (seqs_of by first) (seqs_of by later) (subst (CountsFrom 1) (flat_joined (own_seq by) first later) (legal.counted by));
-  rising = λ by. rises_before 0 (numbers_of by first) (numbers_of by later) (subst (RisesAbove 0) (flat_joined (own_number by) first later) (legal.rising by));
-}
 
 -- ---- one entry more
 

@@ -8,7 +8,7 @@ use Rattle.serial_table.specs.Decision.{Outcome}
 use Rattle.serial_table.specs.Step.{caller_of, answer_of, posts_of}
 use Rattle.serial_table.specs.Text.{call_line, post_line, tables_under}
 use Rattle.opendb_run.specs.Play.{call_event}
-use Rattle.opendb_run.proofs.play.make_call.Goals as goal
+use Rattle.opendb_run.proofs.play.play_call.Goals as goal
 
 pub returns-clause-text : goal.returns-clause-text
 returns-clause-text g c =
