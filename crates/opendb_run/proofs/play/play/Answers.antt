@@ -16,7 +16,7 @@ loop-phase-preserved g c =
     let before = c.loop-phase.invariant in
     let setup = c.args.script.now.setup in
     let more = phase_more setup (start setup) c.loop-phase.table c.print_phase.new.table c.as_slice-phase-items.result.now c.loop-phase.phase-index c.phase-item.result c.loop-phase-test.true c.phase-item.is
-        (record { table = before.table; taken = before.taken }) c.in_ok-text.ensures.table in
+    (record { table = before.table; taken = before.taken }) c.in_ok-text.ensures.table in
     record {
       table = more.table;
       printed = phase_printed setup _ _ _ (start setup) c.loop-phase.table _ _ _ c.loop-phase-test.true c.phase-item.is before.table before.printed c.in_ok-text.ensures.printed;
