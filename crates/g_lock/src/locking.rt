@@ -50,7 +50,12 @@ fn raise_behind(asking: Asking<'_>, watchers: &[WatchRec], holder: Sid) -> GAnsw
 fn raise(asking: Asking<'_>, rec: &GLockRec) -> GAnswer
     ensures { result ≡ raised asking.wait (find (is_in_the_way asking.register.now asking.sid Exclusive) rec.now.holds) (find (is_upgrade_beside asking.mails.now asking.key asking.sid) rec.now.watchers) }
 {
-    match first_in_the_way(rec.holds.as_slice(), asking.register, asking.sid, Mode::Exclusive) {
+    match first_in_the_way(
+        rec.holds.as_slice(),
+        asking.register,
+        asking.sid,
+        Mode::Exclusive,
+    ) {
         Some(first) => raise_behind(asking, rec.watchers.as_slice(), first.sid),
         None => GAnswer::Granted,
     }

@@ -12,7 +12,7 @@ use Rattle.std.specs.BTreeMap.{is_at}
 use Rattle.std.specs.FinMap.{FinMap, from_entries, get, insert, remove, find, get-from_entries, get-insert, get-remove, same_map, IsAntisymmetric, nat_cmp-IsAntisymmetric}
 use Rattle.sid_core.specs.declared.ids.LeaseName.{LeaseName}
 use Rattle.server_ids.proofs.Maps.{lent_so}
-use Rattle.leases_db.specs.Names.{name_cmp, name_at, named}
+use Rattle.leases_db.specs.Names.{name_cmp, named}
 
 -- the order of pairs of numbers
 abbrev pub pair_cmp : ℕ × ℕ → ℕ × ℕ → Ordering

@@ -1,9 +1,8 @@
 -- Records whose values keep their sets.
-use Rattle.std.proofs.Common.{◌≡◌, ◌&&◌, not, ℕ, ◌+◌, ◌<◌, ◌≤◌, ◌^◌, Bool, true, false, cond, List, [], ◌∷◌, ◌++◌, length, filter, Option, Some, None, refl, ap, sym, subst, ◌∙◌, arith}
-use Rattle.std.specs.Prelude.{bit_and, bit_or}
+use Rattle.std.proofs.Common.{◌≡◌, ◌&&◌, not, ℕ, ◌+◌, ◌<◌, ◌≤◌, ◌^◌, Bool, true, false, cond, List, [], ◌∷◌, ◌++◌, length, filter, Option, Some, None, refl, sym, subst, arith}
+use Rattle.std.specs.Prelude.{bit_or}
 use Rattle.std.specs.List.{AllByRecursion}
 use Rattle.std.proofs.lemmas.List.{length-append}
-use Rattle.std.proofs.lemmas.Bool.{and_parts}
 use Rattle.sid_core.specs.declared.bits.LeaseState.{LeaseState}
 use Rattle.sid_core.specs.Values.{IsU32, IsState, is_part_of}
 use Rattle.serial_table.specs.Break.{all_but_write}
@@ -16,7 +15,7 @@ use Rattle.record_codec.specs.LeaseRec.{IsLeaseRef, IsLeaseRec}
 use Rattle.record_codec.proofs.Unbroken.{unbroken_sets}
 use Rattle.leases_db.specs.Breaks.{broken}
 use Rattle.leases_db.specs.Granted.{IsRecord}
-use Rattle.leases_db.specs.Granting.{may_hold, new_lease, grows, old_lease, lease_with, lease_by, with_ref}
+use Rattle.leases_db.specs.Granting.{may_hold, new_lease, grows, lease_with, lease_by, with_ref}
 use Rattle.leases_db.specs.Refs.{refs_of}
 use Rattle.leases_db.proofs.Lists.{all_kept}
 

@@ -93,7 +93,6 @@ use Rattle.table_laws.proofs.EndedSessions.{ends_none, ended_after, ended_same}
 use Rattle.table_laws.proofs.FirstKeys.{FirstKeys, keys_of_reconnect}
 use Rattle.table_laws.proofs.ReconnectEvents.{taken, same_opens, same_view, Decided, decided}
 
-
 -- ---- what `reconnect` goes by
 
 module _ (v w : View) (caller : Caller) (name : LeaseName) where
@@ -236,6 +235,15 @@ module _ (setup : Setup) (n : ℕ) (k j : Chains) (t u : Table) (stands : Stands
   unfolding reconnect
   reconnect_is x = ap (reconnect_first (view x) caller (own_lease caller key)) (made_is x)
 
+  open_was : (x : Table) (o : OpenRow) → IsIn o (behind x).opens → IsIn o x.opens
+  open_was x o i = all_still_in all (expired_by setup (view x) caller which) x o (expired_all adds_no_open (λ l. refl) refl setup (view x) caller which) (expired_all (touches all) (λ l. refl) refl setup (view x) caller which) i
+
+  -- the file of the named open is met
+  met_file : (r : OpenRec) → s.opens named.pid made ≡ Some r → IsIn (file_key setup r.file) keys.files
+  met_file r is =
+      flat_mapped_in (λ key. option_map_or (file_of setup) (record_at open_rec n k db.Opens key) []) (open_key named.pid made ∷ []) (open_key named.pid made) (file_key setup r.file) (inl refl)
+      (subst (λ o. IsIn (file_key setup r.file) (option_map_or (file_of setup) o [])) (sym is) (inl refl))
+
   by_record : (o : Option OpenRec) → s.opens named.pid made ≡ o
       → reconnect_first (view (behind t)) caller (own_lease caller key) (filter (has_id id) (behind t).opens) ≡ reconnect_first (view (behind u)) caller (own_lease caller key) (filter (has_id id) (behind u).opens)
   by_record None is =
@@ -243,9 +251,7 @@ module _ (setup : Setup) (n : ℕ) (k j : Chains) (t u : Table) (stands : Stands
       let b = none_behind u (none_by_id setup z u stands_other.agree fine_other.sound id (sym open_same ∙ is)) in
       ap (reconnect_first (view (behind t)) caller (own_lease caller key)) a ∙ sym (ap (reconnect_first (view (behind u)) caller (own_lease caller key)) b)
   by_record (Some r) is =
-      let here : IsIn (file_key setup r.file) keys.files =
-      flat_mapped_in (λ key. option_map_or (file_of setup) (record_at open_rec n k db.Opens key) []) (open_key named.pid made ∷ []) (open_key named.pid made) (file_key setup r.file) (inl refl)
-      (subst (λ o. IsIn (file_key setup r.file) (option_map_or (file_of setup) o [])) (sym is) (inl refl)) in
+      let here = met_file r is in
       let of = file_by_id setup s t stands.agree fine.sound id r is in
       let of_other = file_by_id setup z u stands_other.agree fine_other.sound id r (sym open_same ∙ is) in
       let shows : file_view r.file (view t) ≡ file_view r.file (view u) =
@@ -256,8 +262,8 @@ module _ (setup : Setup) (n : ℕ) (k j : Chains) (t u : Table) (stands : Stands
       let rows = rows_same (has_id id) r.file (behind t) (behind u) of_behind of_behind_other shows_behind in
       first_same (view (behind t)) (view (behind u)) caller (own_lease caller key) (filter (has_id id) (behind t).opens) (λ row i.
       let at = in_filter (has_id id) (behind t).opens row i in
-      let was = opens_behind t row at.0 in
-      let was_other = opens_behind u row (in_filter (has_id id) (behind u).opens row (subst (IsIn row) rows i)).0 in
+      let was = open_was t row at.0 in
+      let was_other = open_was u row (in_filter (has_id id) (behind u).opens row (subst (IsIn row) rows i)).0 in
       let file_is : row.file ≡ r.file = of row was at.1 in
       let e = entry_recorded setup n k t stands.agree fine.sound fine.sets r.file row (subst (λ g. IsIn row ((view t).opens_of g)) file_is (in_opens t fine.sound row was)) in
       let register = owner_same setup n k j keys.opens [] keys.files keys.names keys.own same r.file here e.0 e.1 (entry_of row) e.2 in (
@@ -266,11 +272,6 @@ module _ (setup : Setup) (n : ℕ) (k j : Chains) (t u : Table) (stands : Stands
         subst (λ g. file_view g (view (behind t)) ≡ file_view g (view (behind u))) (sym file_is) shows_behind,
       ))
       ∙ ap (reconnect_first (view (behind u)) caller (own_lease caller key)) rows
-    where
-      opens_behind : (x : Table) (row : OpenRow) → IsIn row (behind x).opens → IsIn row x.opens
-      opens_behind x row i =
-          all_still_in (λ file. true) (expired_by setup (view x) caller which) x row (expired_all adds_no_open (λ l. refl) refl setup (view x) caller which)
-          (expired_all (touches (λ file. true)) (λ l. refl) refl setup (view x) caller which) i
 
   reconnected_same : reconnect setup (view (behind t)) caller worker made key ≡ reconnect setup (view (behind u)) caller worker made key
   reconnected_same = reconnect_is (behind t) ∙ by_record (s.opens named.pid made) refl ∙ sym (reconnect_is (behind u))
@@ -283,12 +284,6 @@ module _ (setup : Setup) (n : ℕ) (k j : Chains) (t u : Table) (stands : Stands
 
     abbrev end : Table → Table
     end x = perform_all (outcome setup (view x) caller (call.Reconnect worker made key)).changes x
-
-    -- the file of the named open is met
-    met_file : (r : OpenRec) → s.opens named.pid made ≡ Some r → IsIn (file_key setup r.file) keys.files
-    met_file r is =
-        flat_mapped_in (λ key. option_map_or (file_of setup) (record_at open_rec n k db.Opens key) []) (open_key named.pid made ∷ []) (open_key named.pid made) (file_key setup r.file) (inl refl)
-        (subst (λ o. IsIn (file_key setup r.file) (option_map_or (file_of setup) o [])) (sym is) (inl refl))
 
     -- ---- what expires before it
 
@@ -306,9 +301,6 @@ module _ (setup : Setup) (n : ℕ) (k j : Chains) (t u : Table) (stands : Stands
 
     files_behind : (file : ℕ) → IsIn (file_key setup file) keys.files → file_view file (view (behind t)) ≡ file_view file (view (behind u))
     files_behind file i = shown_behind setup caller which t u due_alike file (file_before setup n k j t u stands stands_other fine fine_other keys.opens [] keys.files keys.names keys.own same file i)
-
-    open_was : (x : Table) (o : OpenRow) → IsIn o (behind x).opens → IsIn o x.opens
-    open_was x o i = all_still_in all (expired_by setup (view x) caller which) x o (expired_all adds_no_open (λ l. refl) refl setup (view x) caller which) (expired_all (touches all) (λ l. refl) refl setup (view x) caller which) i
 
     -- ---- what it decides
 
