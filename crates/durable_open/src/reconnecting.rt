@@ -41,7 +41,7 @@ struct Wanted<'a> {
 }
 
 fn can_take(wanted: Wanted<'_>, entry: &ShareEntry) -> bool
-    ensures { result ≡ can_take wanted.register.now wanted.lease.now wanted.name wanted.file wanted.moment entry.now }
+    ensures { result ≡ can_take wanted.entry.register.now wanted.entry.lease.now wanted.entry.name wanted.entry.file wanted.entry.moment entry.now }
 {
     can_be_taken(entry, wanted.register, wanted.moment)
         && (carries(wanted.name, entry.lease)
@@ -49,7 +49,7 @@ fn can_take(wanted: Wanted<'_>, entry: &ShareEntry) -> bool
 }
 
 fn is_taken(wanted: Wanted<'_>, entry: &ShareEntry) -> bool
-    ensures { result ≡ is_taken wanted.register.now wanted.lease.now wanted.name wanted.file wanted.moment wanted.id entry.now }
+    ensures { result ≡ is_taken wanted.entry.register.now wanted.entry.lease.now wanted.entry.name wanted.entry.file wanted.entry.moment wanted.entry.id entry.now }
 {
     entry.id == wanted.id && can_take(wanted, entry)
 }
@@ -80,8 +80,8 @@ fn take_over_entries(
     owner: Sid,
     handle: u32,
 ) -> bool
-    ensures found { result ≡ list_any (is_taken wanted.register.now wanted.lease.now wanted.name wanted.file wanted.moment wanted.id) entries.old.items }
-    ensures entries { entries.new.items ≡ map (taken_over (is_taken wanted.register.now wanted.lease.now wanted.name wanted.file wanted.moment wanted.id) owner handle) entries.old.items }
+    ensures found { result ≡ list_any (is_taken wanted.entry.register.now wanted.entry.lease.now wanted.entry.name wanted.entry.file wanted.entry.moment wanted.entry.id) entries.old.items }
+    ensures entries { entries.new.items ≡ map (taken_over (is_taken wanted.entry.register.now wanted.entry.lease.now wanted.entry.name wanted.entry.file wanted.entry.moment wanted.entry.id) owner handle) entries.old.items }
 {
     let mut found = false;
     for entry in entries.iter_mut() {

@@ -1,5 +1,5 @@
 -- What a table decides of a `glock`, by what it finds; and that the answer tells it.
-use Rattle.std.proofs.Common.{◌≡◌, ◌&&◌, ◌||◌, ℕ, Bool, true, false, cond, List, [], ◌∷◌, filter, find, Option, Some, None, refl, ap, sym, ◌∙◌}
+use Rattle.std.proofs.Common.{◌≡◌, ◌&&◌, ℕ, Bool, true, false, cond, List, [], ◌∷◌, filter, find, Option, Some, None, refl, ap, sym, ◌∙◌}
 use Rattle.std.specs.Option.{option_map, option_map_or}
 use Rattle.std.specs.List.{list_any}
 use Rattle.std.proofs.lemmas.Bool.{or_right}
@@ -16,7 +16,7 @@ use Rattle.serial_table.specs.declared.decision.Decision.{Decision}
 use Rattle.serial_table.specs.View.{View}
 use Rattle.serial_table.specs.Change.{same_mode}
 use Rattle.serial_table.specs.Decision.{only_reply}
-use Rattle.serial_table.specs.GlobalLock.{own_holds, other_holds, keeps_out, other_upgrades, granted_by, wait_for_lock, lower, raise, change_hold, gain_hold, glock_by, glock}
+use Rattle.serial_table.specs.GlobalLock.{own_holds, other_holds, keeps_out, other_upgrades, granted_by, wait_for_lock, lower, raise, change_hold, gain_hold, glock_by}
 use Rattle.serial_table.proofs.Filters.{filter_all}
 use Rattle.serial_table.proofs.Heads.{by_first, by_first_of_both}
 use Rattle.record_codec.specs.declared.watch.WatchRec.{WatchRec}

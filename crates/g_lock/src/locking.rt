@@ -33,7 +33,7 @@ struct Asking<'a> {
 }
 
 fn raise_behind(asking: Asking<'_>, watchers: &[WatchRec], holder: Sid) -> GAnswer
-    ensures { result ≡ raised_behind asking.wait holder (find (is_upgrade_beside asking.mails.now asking.key asking.sid) watchers.now) }
+    ensures { result ≡ raised_behind asking.entry.wait holder (find (is_upgrade_beside asking.entry.mails.now asking.entry.key asking.entry.sid) watchers.now) }
 {
     if !asking.wait {
         return GAnswer::NotGranted { holder };
@@ -48,7 +48,7 @@ fn raise_behind(asking: Asking<'_>, watchers: &[WatchRec], holder: Sid) -> GAnsw
 }
 
 fn raise(asking: Asking<'_>, rec: &GLockRec) -> GAnswer
-    ensures { result ≡ raised asking.wait (find (is_in_the_way asking.register.now asking.sid Exclusive) rec.now.holds) (find (is_upgrade_beside asking.mails.now asking.key asking.sid) rec.now.watchers) }
+    ensures { result ≡ raised asking.entry.wait (find (is_in_the_way asking.entry.register.now asking.entry.sid Exclusive) rec.now.holds) (find (is_upgrade_beside asking.entry.mails.now asking.entry.key asking.entry.sid) rec.now.watchers) }
 {
     match first_in_the_way(
         rec.holds.as_slice(),
@@ -62,7 +62,7 @@ fn raise(asking: Asking<'_>, rec: &GLockRec) -> GAnswer
 }
 
 fn change(asking: Asking<'_>, rec: &GLockRec, held: Mode, asked: Mode) -> GAnswer
-    ensures { result ≡ changed asking.wait held asked (find (is_in_the_way asking.register.now asking.sid asked) rec.now.holds) (find (is_upgrade_beside asking.mails.now asking.key asking.sid) rec.now.watchers) }
+    ensures { result ≡ changed asking.entry.wait held asked (find (is_in_the_way asking.entry.register.now asking.entry.sid asked) rec.now.holds) (find (is_upgrade_beside asking.entry.mails.now asking.entry.key asking.entry.sid) rec.now.watchers) }
 {
     match (held, asked) {
         (Mode::Shared, Mode::Shared) => GAnswer::Granted,
@@ -73,7 +73,7 @@ fn change(asking: Asking<'_>, rec: &GLockRec, held: Mode, asked: Mode) -> GAnswe
 }
 
 fn gain(asking: Asking<'_>, holds: &[Hold], mode: Mode) -> GAnswer
-    ensures { result ≡ gained asking.wait (find (is_in_the_way asking.register.now asking.sid mode) holds.now) }
+    ensures { result ≡ gained asking.entry.wait (find (is_in_the_way asking.entry.register.now asking.entry.sid mode) holds.now) }
 {
     match first_in_the_way(holds, asking.register, asking.sid, mode) {
         None => GAnswer::Granted,
@@ -91,7 +91,7 @@ fn gain(asking: Asking<'_>, holds: &[Hold], mode: Mode) -> GAnswer
 }
 
 fn answer(asking: Asking<'_>, rec: &GLockRec, mode: Mode, own: Option<Hold>) -> GAnswer
-    ensures { result ≡ answered asking.wait mode own (find (is_in_the_way asking.register.now asking.sid mode) rec.now.holds) (find (is_upgrade_beside asking.mails.now asking.key asking.sid) rec.now.watchers) }
+    ensures { result ≡ answered asking.entry.wait mode own (find (is_in_the_way asking.entry.register.now asking.entry.sid mode) rec.now.holds) (find (is_upgrade_beside asking.entry.mails.now asking.entry.key asking.entry.sid) rec.now.watchers) }
 {
     match own {
         Some(hold) => change(asking, rec, hold.mode, mode),

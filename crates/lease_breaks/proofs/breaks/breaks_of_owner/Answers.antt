@@ -1,4 +1,4 @@
-use Rattle.std.proofs.Common.{cond, Some, sym, subst, ◌∙◌}
+use Rattle.std.proofs.Common.{cond, sym, subst, ◌∙◌}
 use Rattle.serial_table.specs.Break.{breaks_read, begins_to_break}
 use Rattle.serial_table.specs.LeaseBreak.{breaks_of_owner}
 use Rattle.server_ids.specs.Sessions.{registered}
