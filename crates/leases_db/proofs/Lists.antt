@@ -1,5 +1,5 @@
 -- Lists that are filtered and mapped.
-use Rattle.std.proofs.Common.{◌≡◌, ◌&&◌, ◌||◌, Bool, true, false, cond, List, [], ◌∷◌, filter, map, refl, ap, ◌∙◌}
+use Rattle.std.proofs.Common.{◌≡◌, ◌&&◌, ◌||◌, not, ◌≤◌, Bool, true, false, cond, List, [], ◌∷◌, filter, map, refl, ap, sym, ◌∙◌}
 use Rattle.std.specs.List.{list_any, AllByRecursion}
 
 module _ {X Y : Type 0} where

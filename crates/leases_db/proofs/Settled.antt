@@ -7,6 +7,7 @@ use Rattle.std.specs.FinMap.{FinMap}
 use Rattle.sid_core.specs.declared.bits.LeaseState.{LeaseState}
 use Rattle.sid_core.specs.declared.ids.LeaseName.{LeaseName}
 use Rattle.sid_core.specs.Values.{has}
+use Rattle.sid_core.specs.Ids.{same_name}
 use Rattle.serial_table.specs.declared.rows.LeaseRow.{LeaseRow}
 use Rattle.serial_table.specs.View.{carries}
 use Rattle.serial_table.specs.File.{FileView, FileOpen, is_under}

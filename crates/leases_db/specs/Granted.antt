@@ -1,5 +1,5 @@
 -- What an `open` asks of a lease whose record is in hand, and the file that it asks before.
-use Rattle.std.specs.Prelude.{◌≡◌, ℕ, Bool, not, Option, Some, None}
+use Rattle.std.specs.Prelude.{◌≡◌, ℕ, Bool, not, List, ◌∷◌, Option, Some, None}
 use Rattle.std.specs.List.{list_any, AllByRecursion}
 use Rattle.sid_core.specs.declared.bits.Access.{Access}
 use Rattle.sid_core.specs.declared.bits.Share.{Share}

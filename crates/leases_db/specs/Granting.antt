@@ -1,5 +1,5 @@
 -- For the code: the record of a lease that an open is granted.
-use Rattle.std.specs.Prelude.{ℕ, Bool, false, not, ◌&&◌, ◌==◌, List, [], ◌∷◌, ◌++◌, Option, Some, None, bit_and, bit_or, if◌then◌else◌}
+use Rattle.std.specs.Prelude.{ℕ, Bool, true, false, not, ◌&&◌, ◌==◌, List, [], ◌∷◌, ◌++◌, Option, Some, None, bit_and, bit_or, if◌then◌else◌}
 use Rattle.sid_core.specs.declared.bits.LeaseState.{LeaseState}
 use Rattle.sid_core.specs.declared.ids.OpenId.{OpenId}
 use Rattle.sid_core.specs.declared.ids.Sid.{Sid}

@@ -1,6 +1,6 @@
 use Rattle.std.proofs.Common.{◌<◌, length, sym, ◌∙◌, arith}
 use Rattle.std.specs.FinMap as map
-use Rattle.durable_open.proofs.Sweeping.{swept_one, left_one}
+use Rattle.durable_open.proofs.Sweeping.{Sweeps, swept_one, left_one}
 use Rattle.durable_open.proofs.scavenging.sweep.Goals as goal
 use Rattle.durable_open.proofs.scavenging.sweep.Goals.{then-not-goes, else-not-goes}
 

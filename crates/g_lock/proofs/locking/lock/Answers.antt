@@ -1,6 +1,6 @@
-use Rattle.std.proofs.Common.{find, refl, ap, ◌∙◌}
+use Rattle.std.proofs.Common.{◌≡◌, find, refl, ap, ◌∙◌}
 use Rattle.g_lock.specs.Holds.{counted_holds, stale_holds}
-use Rattle.g_lock.specs.Answer.{told}
+use Rattle.g_lock.specs.Answer.{told, who_keeps_out, who_upgrades}
 use Rattle.g_lock.specs.Scans.{is_own, is_in_the_way, is_upgrade_beside, answered, becomes}
 use Rattle.g_lock.proofs.Held.{stale_stay, kept_sets}
 use Rattle.g_lock.proofs.Agreeing.{answered_still, names_no_holder, names_no_other, answer_to, agrees}

@@ -3,7 +3,7 @@ use Rattle.std.specs.List.{list_any}
 use Rattle.sid_core.specs.declared.reply.Reply.TheVariants.{Done, ObjectNameNotFound}
 use Rattle.g_lock.specs.Holds.{counted_holds}
 use Rattle.g_lock.specs.Scans.{is_own}
-use Rattle.g_lock.proofs.GivenUp.{none_stays, gives_up, sets_stay}
+use Rattle.g_lock.proofs.GivenUp.{none_stays, others, gives_up, sets_stay}
 use Rattle.g_lock.proofs.unlocking.unlock.Goals as goal
 
 pub returns-then-held-clause-reply : goal.returns-then-held-clause-reply

@@ -1,4 +1,4 @@
-use Rattle.std.proofs.Common.{cond, ap, sym, ◌∙◌}
+use Rattle.std.proofs.Common.{◌≡◌, true, false, cond, ap, sym, ◌∙◌}
 use Rattle.leases_db.specs.Breaks.{broken}
 use Rattle.record_rows.specs.Rows.{lease_row}
 use Rattle.leases_db.proofs.Due.{due_is, expires_as, breaks_where}

@@ -1,6 +1,7 @@
-use Rattle.std.proofs.Common.{map, ap, sym, subst, ◌∙◌}
+use Rattle.std.proofs.Common.{◌≡◌, cond, ◌||◌, ◌&&◌, ◌==◌, not, filter, map, ap, sym, subst, ◌∙◌}
+use Rattle.sid_core.specs.Values.{has}
 use Rattle.record_codec.specs.declared.lease_rec.LeaseRec.{LeaseRec}
-use Rattle.record_codec.specs.Counts.{is_unanswered}
+use Rattle.record_codec.specs.Counts.{is_connected, is_unanswered, settled_refs, with_refs}
 use Rattle.record_codec.specs.LeaseRec.{IsLeaseRec}
 use Rattle.server_ids.specs.Sessions.{registered}
 use Rattle.leases_db.specs.Rows.{lease_rows, told_by_ref}
