@@ -1,69 +1,29 @@
 -- When sessions ended, by the register records; and that what expires ends none.
-use Rattle.std.proofs.Common.{◌≡◌, ℕ, ◌+◌, Bool, true, false, cond, not, ◌&&◌, List, [], ◌∷◌, map, filter, find, Option, Some, None, refl, sym, ap, ◌∙◌, subst, inl, inr}
+use Rattle.std.proofs.Common.{◌≡◌, ℕ, ◌+◌, Bool, true, false, List, [], ◌∷◌, map, Option, Some, None, refl, sym, ap, ◌∙◌, inl, inr}
 use Rattle.std.specs.Prelude.{nat_lt}
 use Rattle.std.specs.List.{list_all}
 use Rattle.std.specs.Option.{option_map, option_map_or}
 use Rattle.std.proofs.lemmas.Bool.{and_parts, eqb-true}
-use Rattle.sid_core.specs.declared.call.Call.{Call}
-use Rattle.sid_core.specs.declared.call.Call.TheVariants as call
-use Rattle.sid_core.specs.declared.ids.LeaseName.{LeaseName}
-use Rattle.sid_core.specs.declared.ids.Moment.{Moment}
-use Rattle.sid_core.specs.declared.ids.OpenId.{OpenId}
-use Rattle.sid_core.specs.declared.ids.Sid.{Sid}
-use Rattle.sid_core.specs.declared.reply.Reply.{Reply}
-use Rattle.sid_core.specs.declared.reply.Reply.TheVariants.{ObjectNameNotFound}
 use Rattle.sid_core.specs.declared.setup.Setup.{Setup}
-use Rattle.sid_core.specs.declared.setup.WorkerInfo.{WorkerInfo}
 use Rattle.sid_core.specs.Counting.{CountsFrom}
-use Rattle.sid_core.specs.Ids.{same_sid}
 use Rattle.serial_table.specs.declared.rows.OpenRow.{OpenRow}
 use Rattle.serial_table.specs.declared.rows.EndedRow.{EndedRow}
 use Rattle.serial_table.specs.declared.rows.WorkerRow.{WorkerRow}
 use Rattle.serial_table.specs.declared.table.Table.{Table}
 use Rattle.serial_table.specs.declared.change.Change.{Change}
 use Rattle.serial_table.specs.declared.change.Change.TheVariants as c
-use Rattle.serial_table.specs.declared.decision.Caller.{Caller}
-use Rattle.serial_table.specs.declared.decision.Decision.{Decision}
-use Rattle.serial_table.specs.Asked.{own_lease}
 use Rattle.serial_table.specs.View.{View, view, lives, carries, has_id, is_end_of}
-use Rattle.serial_table.specs.File.{file_view}
-use Rattle.serial_table.specs.InPlace.{lives_by}
 use Rattle.serial_table.specs.Change.{perform, perform_all}
 use Rattle.serial_table.specs.Settle.{settle_where}
-use Rattle.serial_table.specs.Decision.{only_reply}
-use Rattle.serial_table.specs.Durable.{can_be_taken}
-use Rattle.serial_table.specs.Expire.{names_beside, look, due, expires, then_settles, expired_by}
 use Rattle.serial_table.specs.InSets.{IsInSets}
-use Rattle.serial_table.specs.Reconnect.{take_over, reconnect_first, made_by, reconnect}
 use Rattle.serial_table.specs.Sound.{IsSound, has_had}
-use Rattle.serial_table.specs.Step.{declared_at}
-use Rattle.serial_table.proofs.SameIds.{same_id-eq}
-use Rattle.serial_table.proofs.Expiring.{expired_all, expired_workers}
 use Rattle.serial_table.proofs.Members.{IsIn, all_of, each, in_filter, some_same}
-use Rattle.chain_map.specs.declared.db.Db.TheVariants as db
-use Rattle.record_codec.specs.declared.open_rec.OpenRec.{OpenRec}
 use Rattle.record_codec.specs.declared.register_rec.RegisterRec.{RegisterRec}
 use Rattle.record_codec.specs.Counts.{Records}
-use Rattle.record_codec.specs.OpenRec.{open_rec}
-use Rattle.stored_table.specs.Keys.{open_key, pid_key, name_key, file_key}
-use Rattle.stored_table.specs.Places.{Chains, Place, among, value_at}
-use Rattle.stored_table.specs.Decoded.{AllRecords, deciding, records_of}
-use Rattle.record_rows.specs.Rows.{entry_of}
+use Rattle.stored_table.specs.Decoded.{AllRecords, deciding}
 use Rattle.stored_table.specs.Exact.{register_record}
-use Rattle.stored_table.specs.Met.{KeyList, met, met_by_reconnect, all_met, named_at, file_of, nothing_met, record_at}
-use Rattle.stored_table.specs.Stands.{AgreeWith, HasOpenRecords, StandsFor, clean_register}
-use Rattle.stored_table.proofs.Telling.{none_in, not_declared, lives_alike, file_tells}
-use Rattle.table_laws.specs.Standing.{call_entry}
-use Rattle.table_laws.specs.ByFootprint.{IsLegalByFootprint}
-use Rattle.table_laws.proofs.Chains.{IsFine, adds_no_open, all_still_in}
-use Rattle.table_laws.proofs.Exactly.{in_opens}
-use Rattle.table_laws.proofs.Meets.{flat_mapped_in, entry_recorded}
-use Rattle.table_laws.proofs.Showing.{lives_same, shown_same}
-use Rattle.table_laws.proofs.Footprints.{own_open_same, own_register_same, owner_same, file_same}
-use Rattle.table_laws.proofs.Touching.{touches}
-use Rattle.table_laws.proofs.SameFiles.{AreOfFile, behind_of_file, view_behind_same, rows_same}
-use Rattle.table_laws.proofs.Answering.{IsAnsweredAlike, legal_if}
-use Rattle.table_laws.proofs.PlainAnswers.{at_met, by_declared}
+use Rattle.stored_table.specs.Stands.{AgreeWith, clean_register}
+use Rattle.table_laws.proofs.Chains.{IsFine}
 
 -- ---- when sessions ended, by the register record
 

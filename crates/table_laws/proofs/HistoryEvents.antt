@@ -31,14 +31,14 @@ use Rattle.stored_table.specs.Decoded.{records_of}
 use Rattle.stored_table.specs.Histories.{moved_from, moved_by}
 use Rattle.stored_table.specs.Move.{added, move, places_written, first_chains}
 use Rattle.stored_table.specs.Shown.{part_of}
-use Rattle.stored_table.specs.Stands.{IsWellFormed, StandsFor}
+use Rattle.stored_table.specs.Stands.{AddedHasSpelling, HaveSpellings, IsWellFormed, StandsFor}
 use Rattle.stored_table.proofs.Keeping.{well_formed-move}
 use Rattle.stored_table.proofs.Spelling.{have_spellings, added_has_spelling}
 use Rattle.stored_table.proofs.Starting.{first_chains_stand}
 use Rattle.stored_table.proofs.Whole.{records_moved}
 use Rattle.table_laws.specs.Standing.{IsUnwatched, IsUnnamed, next_sid, call_entry, HistoryStands, NameNothingNew}
 use Rattle.table_laws.proofs.Lists.{append_nothing}
-use Rattle.table_laws.proofs.Chains.{legal_is_fine, flat_joined, counts_before, rises_before}
+use Rattle.table_laws.proofs.Chains.{IsFine, legal_is_fine, flat_joined, counts_before, rises_before}
 use Rattle.table_laws.proofs.Recorded.{IsRecorded, had_perform_all, recorded_after}
 use Rattle.table_laws.proofs.FirstRecords.{first_recorded}
 use Rattle.table_laws.proofs.HandleEvents.{close_stands, delete_stands, unlock_stands, read_stands}

@@ -68,10 +68,10 @@ use Rattle.serial_table.proofs.GrantOwed.{of_lease}
 use Rattle.serial_table.proofs.InSets.{sid_of}
 use Rattle.serial_table.proofs.SettledSound.{settled-sound}
 use Rattle.chain_map.specs.declared.db.Db.TheVariants as db
-use Rattle.stored_table.specs.Keys.{open_key, pid_key, name_key, file_key}
+use Rattle.stored_table.specs.Keys.{open_key, name_key}
 use Rattle.stored_table.specs.Places.{Chains, Place, place, among}
 use Rattle.stored_table.specs.Decoded.{AllRecords, records_of}
-use Rattle.stored_table.specs.Met.{KeyList, asked_name, met_by_call, met_by_open, all_met, nothing_met}
+use Rattle.stored_table.specs.Met.{asked_name, met_by_call, met_by_open, all_met, nothing_met}
 use Rattle.stored_table.specs.Move.{added, added_by_call, added_by_caller, added_for, id_by, move, places_written}
 use Rattle.stored_table.specs.Moved.{moved}
 use Rattle.stored_table.specs.Stands.{AgreeWith, HasOpenRecords, StandsFor}

@@ -29,11 +29,11 @@ use Rattle.serial_table.specs.Step.{caller_of}
 use Rattle.serial_table.specs.History.{start, after, after_event, after_entry, IsLegal, numbers_of}
 use Rattle.serial_table.specs.Sound.{have_same_id}
 use Rattle.serial_table.proofs.Alike.{after_all-append}
-use Rattle.serial_table.proofs.Along.{Rises, rises_at, along_before, legal_before}
+use Rattle.serial_table.proofs.Along.{Rises, rises_at}
 use Rattle.serial_table.proofs.Callers.{is_caller_of}
 use Rattle.serial_table.proofs.Members.{IsIn, all_by, in_filter, one_in, some_same}
 use Rattle.serial_table.proofs.SameIds.{same_id-eq, same_id-refl, eqb-flip}
-use Rattle.serial_table.proofs.Soundness.{IsReached, expiries_reach, deaths_reach, start_reached}
+use Rattle.serial_table.proofs.Soundness.{IsReached, start_reached}
 use Rattle.chain_map.specs.declared.db.Db.TheVariants as db
 use Rattle.record_codec.specs.declared.open_rec.OpenRec.{OpenRec}
 use Rattle.record_codec.specs.OpenRec.{open_rec}
@@ -48,12 +48,10 @@ use Rattle.stored_table.specs.Move.{AddedOpen, added_for, added_by_caller, added
 use Rattle.stored_table.specs.Stands.{AddedHasSpelling, IsWellFormed}
 use Rattle.stored_table.proofs.Bridging.{decoded_spelled, new_by}
 use Rattle.stored_table.proofs.Keeping.{well_formed-move}
-use Rattle.stored_table.proofs.Spelling.{have_spellings, added_has_spelling}
 use Rattle.stored_table.proofs.Starting.{first_chains_stand}
 use Rattle.stored_table.proofs.Writing.{value_at-write_all}
 use Rattle.table_laws.specs.Standing.{NameTheirFiles}
 use Rattle.table_laws.proofs.Lists.{append_nothing}
-use Rattle.table_laws.proofs.Chains.{legal_is_fine}
 use Rattle.table_laws.proofs.FirstRecords.{no_open}
 use Rattle.table_laws.proofs.HistoryEvents.{carried, next_step}
 use Rattle.table_laws.proofs.OwnOpens.{IsOldOrOwn, called_opens, concluded_opens, ending_passes}

@@ -42,11 +42,11 @@ use Rattle.serial_table.proofs.Members.{IsIn}
 use Rattle.serial_table.proofs.SameIds.{same_id-eq}
 use Rattle.serial_table.proofs.Settled.{files_settled}
 use Rattle.chain_map.specs.declared.db.Db.TheVariants as db
-use Rattle.stored_table.specs.Keys.{open_key, pid_key, file_key}
+use Rattle.stored_table.specs.Keys.{open_key, file_key}
 use Rattle.stored_table.specs.Places.{Chains, Place, place, among, value_at}
 use Rattle.stored_table.specs.Decoded.{AllRecords, records_of}
 use Rattle.stored_table.specs.Exact.{exact_lease}
-use Rattle.stored_table.specs.Met.{KeyList, met_by_open, asked_name, all_met}
+use Rattle.stored_table.specs.Met.{met_by_open, all_met}
 use Rattle.stored_table.specs.Move.{added_for, added_by_caller, id_by, added, new_open_record}
 use Rattle.stored_table.specs.Stands.{StandsFor}
 use Rattle.stored_table.proofs.Telling.{lives_alike}

@@ -1,8 +1,8 @@
 -- `reconnect` is legal by the chains of its footprint alone; and the tables after it, where two chains give those the same.
 use Rattle.std.proofs.Common.{◌≡◌, ℕ, ◌+◌, Bool, true, false, cond, not, ◌&&◌, List, [], ◌∷◌, map, filter, find, Option, Some, None, refl, sym, ap, ◌∙◌, subst, inl, inr, suc, ◌==◌, ◌++◌, arith}
 use Rattle.std.specs.Prelude.{nat_lt}
-use Rattle.std.specs.List.{list_all, AllByRecursion, list_any}
-use Rattle.std.specs.Option.{option_map, option_map_or, option_and_then}
+use Rattle.std.specs.List.{list_all, list_any}
+use Rattle.std.specs.Option.{option_map, option_map_or}
 use Rattle.std.proofs.lemmas.Bool.{and_parts, eqb-true, and_from, cond-false, false_from_ne_true}
 use Rattle.sid_core.specs.declared.call.Call.{Call}
 use Rattle.sid_core.specs.declared.call.Call.TheVariants as call
@@ -14,11 +14,9 @@ use Rattle.sid_core.specs.declared.reply.Reply.{Reply}
 use Rattle.sid_core.specs.declared.reply.Reply.TheVariants.{ObjectNameNotFound, Granted}
 use Rattle.sid_core.specs.declared.setup.Setup.{Setup}
 use Rattle.sid_core.specs.declared.setup.WorkerInfo.{WorkerInfo}
-use Rattle.sid_core.specs.Counting.{CountsFrom}
 use Rattle.sid_core.specs.Ids.{same_sid, same_id}
 use Rattle.serial_table.specs.declared.rows.OpenRow.{OpenRow}
 use Rattle.serial_table.specs.declared.rows.EndedRow.{EndedRow}
-use Rattle.serial_table.specs.declared.rows.WorkerRow.{WorkerRow}
 use Rattle.serial_table.specs.declared.table.Table.{Table}
 use Rattle.serial_table.specs.declared.change.Change.{Change}
 use Rattle.serial_table.specs.declared.change.Change.TheVariants as c
@@ -28,38 +26,35 @@ use Rattle.serial_table.specs.Asked.{own_lease}
 use Rattle.serial_table.specs.View.{View, view, lives, carries, has_id, is_end_of, is_of_file, is_of_handle}
 use Rattle.serial_table.specs.File.{file_view, FileOpen, file_open}
 use Rattle.serial_table.specs.InPlace.{lives_by}
-use Rattle.serial_table.specs.Change.{perform, perform_all, is_open, new_owner}
-use Rattle.serial_table.specs.Settle.{settle_where, settle_file, settle}
+use Rattle.serial_table.specs.Change.{perform_all, is_open, new_owner}
+use Rattle.serial_table.specs.Settle.{settle_file, settle}
 use Rattle.serial_table.specs.Decision.{only_reply, conclude}
 use Rattle.serial_table.specs.Durable.{can_be_taken}
 use Rattle.serial_table.specs.Expire.{names_beside, look, due, expires, then_settles, expired_by}
-use Rattle.serial_table.specs.InSets.{IsInSets}
 use Rattle.serial_table.specs.Reconnect.{take_over, reconnect_first, made_by, reconnect}
-use Rattle.serial_table.specs.Sound.{IsSound, has_had}
+use Rattle.serial_table.specs.Sound.{IsSound}
 use Rattle.serial_table.specs.Step.{declared_at}
 use Rattle.serial_table.proofs.SameIds.{same_id-eq}
 use Rattle.serial_table.proofs.Expiring.{expired_all, expired_workers, expired_settled, lives_behind, outcome_table}
-use Rattle.serial_table.proofs.Members.{IsIn, all_of, each, in_filter, some_same, any_none, passes_in}
+use Rattle.serial_table.proofs.Members.{IsIn, all_of, in_filter, some_same, any_none, passes_in}
 use Rattle.chain_map.specs.declared.db.Db.TheVariants as db
 use Rattle.record_codec.specs.declared.open_rec.OpenRec.{OpenRec}
-use Rattle.record_codec.specs.declared.register_rec.RegisterRec.{RegisterRec}
-use Rattle.record_codec.specs.Counts.{Records}
 use Rattle.record_codec.specs.OpenRec.{open_rec}
 use Rattle.stored_table.specs.Keys.{open_key, pid_key, name_key, file_key}
-use Rattle.stored_table.specs.Places.{Chains, Place, among, value_at, place, chain_at}
-use Rattle.stored_table.specs.Decoded.{AllRecords, deciding, records_of}
+use Rattle.stored_table.specs.Places.{Chains, Place, among, value_at, place}
+use Rattle.stored_table.specs.Decoded.{AllRecords, records_of}
 use Rattle.record_rows.specs.Rows.{entry_of}
-use Rattle.stored_table.specs.Exact.{register_record, exact_lease}
-use Rattle.stored_table.specs.Met.{KeyList, met, met_by_reconnect, all_met, named_at, file_of, nothing_met, record_at, Met, met_by_call}
-use Rattle.stored_table.specs.Stands.{AgreeWith, HasOpenRecords, StandsFor, clean_register}
+use Rattle.stored_table.specs.Exact.{exact_lease}
+use Rattle.stored_table.specs.Met.{met, met_by_reconnect, all_met, named_at, file_of, nothing_met, record_at}
+use Rattle.stored_table.specs.Stands.{AgreeWith, HasOpenRecords, StandsFor}
 use Rattle.stored_table.proofs.Telling.{none_in, not_declared, lives_alike, file_tells}
 use Rattle.table_laws.specs.Standing.{call_entry, NameTheirFiles}
-use Rattle.table_laws.specs.ByFootprint.{IsLegalByFootprint, IsWrittenByFootprint}
+use Rattle.table_laws.specs.ByFootprint.{IsLegalByFootprint}
 use Rattle.table_laws.proofs.Chains.{IsFine, adds_no_open, all_still_in}
 use Rattle.table_laws.proofs.Exactly.{in_opens}
 use Rattle.table_laws.proofs.Meets.{flat_mapped_in, entry_recorded}
 use Rattle.table_laws.proofs.Showing.{lives_same, shown_same, SameLease}
-use Rattle.table_laws.proofs.Footprints.{own_open_same, own_register_same, owner_same, file_same, lease_same}
+use Rattle.table_laws.proofs.Footprints.{own_open_same, own_register_same, owner_same, file_same}
 use Rattle.table_laws.proofs.Touching.{touches, file_stays, same_then}
 use Rattle.table_laws.proofs.SameFiles.{AreOfFile, behind_of_file, view_behind_same, rows_same, due_same}
 use Rattle.table_laws.proofs.Answering.{IsAnsweredAlike, legal_if}
@@ -69,23 +64,18 @@ use Rattle.sid_core.specs.declared.bits.LeaseState.{LeaseState}
 use Rattle.sid_core.specs.declared.ids.Spot.{Spot}
 use Rattle.serial_table.specs.ByNumber.{declared_at}
 use Rattle.serial_table.specs.Decide.{outcome}
-use Rattle.serial_table.specs.History.{start, after}
-use Rattle.serial_table.proofs.Along.{legal_before}
 use Rattle.serial_table.proofs.Concluding.{conclude_all}
 use Rattle.serial_table.proofs.Filters.{filter-map}
 use Rattle.serial_table.proofs.Names.{same_sid-eq}
 use Rattle.serial_table.proofs.Settled.{IsSettled, files_settled}
 use Rattle.serial_table.proofs.Views.{file-new_owner}
-use Rattle.stored_table.specs.Footprint.{footprint}
-use Rattle.stored_table.specs.Histories.{moved_by}
-use Rattle.stored_table.specs.Move.{added_for, added_by_caller, added, still_open, new_open_record, move}
+use Rattle.stored_table.specs.Move.{still_open}
 use Rattle.table_laws.proofs.AddedOpens.{IsNewNumber}
 use Rattle.table_laws.proofs.Calls.{changes_are}
-use Rattle.table_laws.proofs.CallWrites.{WritesAlike, call_written}
 use Rattle.table_laws.proofs.Contained.{SameFile}
 use Rattle.table_laws.proofs.ExpiredLeases.{all, behind_sound, expired_alike, shown_behind, lease_behind}
 use Rattle.table_laws.proofs.FilesAlike.{file_alike}
-use Rattle.table_laws.proofs.FileWrites.{LeftOrAlike, lease_alike, new_alike, of_named_file, file_before, open_alike, records_alike}
+use Rattle.table_laws.proofs.FileWrites.{LeftOrAlike, lease_alike, of_named_file, file_before, open_alike}
 use Rattle.table_laws.proofs.Keywise.{woken_alike, concluded_alike}
 use Rattle.table_laws.proofs.NewKeys.{unread}
 use Rattle.table_laws.proofs.OwnOpens.{adds_own, IsOldOrOwn, old_or_own}

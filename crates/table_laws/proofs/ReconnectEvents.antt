@@ -58,10 +58,10 @@ use Rattle.serial_table.proofs.Concluding.{perform_all-append}
 use Rattle.chain_map.specs.declared.db.Db.TheVariants as db
 use Rattle.record_codec.specs.declared.open_rec.OpenRec.{OpenRec}
 use Rattle.record_codec.specs.OpenRec.{open_rec}
-use Rattle.stored_table.specs.Keys.{open_key, pid_key, name_key, file_key}
+use Rattle.stored_table.specs.Keys.{open_key, file_key}
 use Rattle.stored_table.specs.Places.{Chains, Place, place, among}
 use Rattle.stored_table.specs.Decoded.{AllRecords, records_of}
-use Rattle.stored_table.specs.Met.{KeyList, met_by_call, met_by_reconnect, all_met, named_at, file_of, nothing_met, record_at}
+use Rattle.stored_table.specs.Met.{met_by_call, met_by_reconnect, all_met, file_of, nothing_met, record_at}
 use Rattle.stored_table.specs.Move.{added, added_for, move, places_written, added_by_caller}
 use Rattle.stored_table.specs.Moved.{moved}
 use Rattle.stored_table.specs.Stands.{HasOpenRecords, StandsFor}

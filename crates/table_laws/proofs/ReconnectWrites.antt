@@ -1,84 +1,41 @@
 -- What `reconnect` writes goes by the chains of its footprint alone.
-use Rattle.std.proofs.Common.{◌≡◌, ℕ, suc, Bool, true, false, cond, ◌==◌, List, [], ◌∷◌, ◌++◌, map, filter, Option, Some, None, refl, sym, ap, ◌∙◌, subst, inl, inr, arith}
-use Rattle.std.specs.List.{AllByRecursion, list_all, list_any}
+use Rattle.std.proofs.Common.{◌≡◌, ℕ, true, [], ◌∷◌, ◌++◌, Option, Some, None, refl, sym, ap, ◌∙◌, subst, inl}
+use Rattle.std.specs.List.{AllByRecursion}
 use Rattle.std.specs.Option.{option_map_or, option_and_then}
-use Rattle.std.proofs.lemmas.Bool.{and_parts, and_from, cond-false, eqb-true, false_from_ne_true}
-use Rattle.std.proofs.lemmas.List.Folds.{list_all-append}
-use Rattle.sid_core.specs.declared.bits.LeaseState.{LeaseState}
 use Rattle.sid_core.specs.declared.call.Call.{Call}
 use Rattle.sid_core.specs.declared.call.Call.TheVariants as call
-use Rattle.sid_core.specs.declared.ids.LeaseName.{LeaseName}
 use Rattle.sid_core.specs.declared.ids.Moment.{Moment}
-use Rattle.sid_core.specs.declared.ids.OpenId.{OpenId}
-use Rattle.sid_core.specs.declared.ids.Sid.{Sid}
-use Rattle.sid_core.specs.declared.ids.Spot.{Spot}
 use Rattle.sid_core.specs.declared.reply.Reply.{Reply}
-use Rattle.sid_core.specs.declared.reply.Reply.TheVariants.{Granted, ObjectNameNotFound}
+use Rattle.sid_core.specs.declared.reply.Reply.TheVariants.{Granted}
 use Rattle.sid_core.specs.declared.setup.Setup.{Setup}
 use Rattle.sid_core.specs.declared.setup.WorkerInfo.{WorkerInfo}
-use Rattle.sid_core.specs.Ids.{same_id, same_sid}
 use Rattle.serial_table.specs.ByNumber.{declared_at}
-use Rattle.serial_table.specs.declared.rows.OpenRow.{OpenRow}
 use Rattle.serial_table.specs.declared.table.Table.{Table}
-use Rattle.serial_table.specs.declared.change.Change.{Change}
-use Rattle.serial_table.specs.declared.change.Change.TheVariants as c
-use Rattle.serial_table.specs.declared.decision.Caller.{Caller}
-use Rattle.serial_table.specs.declared.decision.Decision.{Decision}
-use Rattle.serial_table.specs.Asked.{own_lease}
-use Rattle.serial_table.specs.View.{View, view, lives, has_id, is_of_file, is_of_handle}
-use Rattle.serial_table.specs.File.{FileOpen, file_view, file_open}
-use Rattle.serial_table.specs.Change.{is_open, new_owner, perform_all}
+use Rattle.serial_table.specs.View.{View, view}
+use Rattle.serial_table.specs.File.{file_view}
+use Rattle.serial_table.specs.Change.{perform_all}
 use Rattle.serial_table.specs.Decide.{outcome}
-use Rattle.serial_table.specs.Decision.{only_reply, conclude}
-use Rattle.serial_table.specs.Expire.{names_beside, look, due, expired_by}
 use Rattle.serial_table.specs.History.{start, after}
-use Rattle.serial_table.specs.Reconnect.{reconnect}
-use Rattle.serial_table.specs.Settle.{settle_file, settle}
 use Rattle.serial_table.specs.Sound.{IsSound}
 use Rattle.serial_table.proofs.Along.{legal_before}
-use Rattle.serial_table.proofs.Concluding.{conclude_all}
-use Rattle.serial_table.proofs.Expiring.{expired_all, expired_settled, lives_behind, outcome_table}
-use Rattle.serial_table.proofs.Filters.{filter-map}
-use Rattle.serial_table.proofs.Members.{IsIn, all_of, any_none, in_filter, passes_in}
-use Rattle.serial_table.proofs.Names.{same_sid-eq}
-use Rattle.serial_table.proofs.SameIds.{same_id-eq}
-use Rattle.serial_table.proofs.Settled.{IsSettled, files_settled}
-use Rattle.serial_table.proofs.Views.{file-new_owner}
+use Rattle.serial_table.proofs.Members.{IsIn}
 use Rattle.chain_map.specs.declared.db.Db.TheVariants as db
-use Rattle.record_codec.specs.declared.open_rec.OpenRec.{OpenRec}
-use Rattle.record_codec.specs.OpenRec.{open_rec}
-use Rattle.stored_table.specs.Keys.{open_key, pid_key, name_key, file_key}
+use Rattle.stored_table.specs.Keys.{open_key, pid_key, file_key}
 use Rattle.stored_table.specs.Places.{Chains, Place, place, among, chain_at, value_at}
-use Rattle.stored_table.specs.Decoded.{AllRecords, records_of}
 use Rattle.stored_table.specs.Exact.{exact_lease}
 use Rattle.stored_table.specs.Footprint.{footprint}
 use Rattle.stored_table.specs.Histories.{moved_by}
-use Rattle.stored_table.specs.Met.{KeyList, Met, met_by_call, met_by_reconnect, all_met, named_at, file_of, nothing_met, record_at}
+use Rattle.stored_table.specs.Met.{Met, met_by_call, met_by_reconnect, all_met, nothing_met}
 use Rattle.stored_table.specs.Move.{added_for, added_by_caller, added, still_open, new_open_record, move}
-use Rattle.stored_table.specs.Stands.{HasOpenRecords, StandsFor}
-use Rattle.stored_table.proofs.Telling.{none_in, not_declared}
+use Rattle.stored_table.proofs.Telling.{not_declared}
 use Rattle.table_laws.specs.ByFootprint.{IsWrittenByFootprint}
-use Rattle.table_laws.specs.Standing.{NameTheirFiles, call_entry}
+use Rattle.table_laws.specs.Standing.{call_entry}
 use Rattle.table_laws.proofs.AddedOpens.{IsNewNumber}
-use Rattle.table_laws.proofs.Calls.{changes_are}
 use Rattle.table_laws.proofs.CallWrites.{WritesAlike, call_written}
-use Rattle.table_laws.proofs.Chains.{IsFine, adds_no_open, all_still_in}
-use Rattle.table_laws.proofs.Contained.{SameFile}
-use Rattle.table_laws.proofs.Exactly.{in_opens}
-use Rattle.table_laws.proofs.ExpiredLeases.{all, behind_sound, expired_alike, shown_behind, lease_behind}
-use Rattle.table_laws.proofs.FilesAlike.{file_alike}
-use Rattle.table_laws.proofs.FileWrites.{LeftOrAlike, lease_alike, new_alike, of_named_file, file_before, open_alike, records_alike}
+use Rattle.table_laws.proofs.FileWrites.{new_alike, records_alike}
 use Rattle.table_laws.proofs.FirstKeys.{keys_of_reconnect}
 use Rattle.table_laws.proofs.Footprints.{lease_same}
-use Rattle.table_laws.proofs.Keywise.{woken_alike, concluded_alike}
-use Rattle.table_laws.proofs.Meets.{flat_mapped_in}
-use Rattle.table_laws.proofs.NewKeys.{unread}
-use Rattle.table_laws.proofs.OwnOpens.{adds_own, IsOldOrOwn, old_or_own}
 use Rattle.table_laws.proofs.ReconnectAnswers.{changes_alike, shown_end, lease_end, ids_end, still_end}
-use Rattle.table_laws.proofs.ReconnectEvents.{taken, same_opens, same_view, Decided, decided}
-use Rattle.table_laws.proofs.SameFiles.{AreOfFile, rows_same, due_same}
-use Rattle.table_laws.proofs.Showing.{SameLease}
-use Rattle.table_laws.proofs.Touching.{touches, file_stays, same_then}
 
 -- ---- the open record that it adds
 
