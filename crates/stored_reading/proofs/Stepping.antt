@@ -12,10 +12,9 @@ use Rattle.sid_core.specs.declared.entry.Entry.{Entry}
 use Rattle.sid_core.specs.declared.entry.Event.{Event}
 use Rattle.sid_core.specs.declared.entry.Event.TheVariants.{Called, Died, Tidied}
 use Rattle.sid_core.specs.declared.setup.Setup.{Setup}
-use Rattle.sid_core.specs.Counting.{CountsFrom, RisesAbove}
 use Rattle.sid_core.specs.Setup.{IsSetup}
 use Rattle.serial_table.specs.declared.table.Table.{Table}
-use Rattle.serial_table.specs.History.{start, after, after_entry, after_all, AreLegal, IsLegal, IsLegalEvent, own_seq, seqs_of, own_number, numbers_of}
+use Rattle.serial_table.specs.History.{start, after, after_entry, after_all, IsLegal, IsLegalEvent}
 use Rattle.serial_table.specs.Step.{answer_of, death_of, view_after}
 use Rattle.serial_table.specs.View.{View, view}
 use Rattle.serial_table.proofs.Alike.{view-after_event, after_all-append}
@@ -24,7 +23,7 @@ use Rattle.stored_table.specs.Histories.{moved_from, moved_by}
 use Rattle.stored_table.specs.Move.{move, first_chains}
 use Rattle.stored_table.specs.Stands.{StandsFor}
 use Rattle.stored_table.specs.Decoded.{records_of}
-use Rattle.table_laws.proofs.Chains.{legal_is_fine, flat_joined, counts_before, rises_before}
+use Rattle.table_laws.proofs.Chains.{legal_is_fine}
 use Rattle.table_laws.proofs.HistoryEvents.{grouped, legal_begin, history_stands}
 use Rattle.table_laws.proofs.Lists.{append_nothing}
 use Rattle.stored_reading.specs.Reading.{view_of_chains}
