@@ -1,5 +1,6 @@
 -- What is found in a record is what a table finds that has the ranges that count.
 use Rattle.std.proofs.Common.{◌≡◌, ◌&&◌, ◌||◌, ℕ, Bool, true, false, cond, List, [], ◌∷◌, filter, map, find, Option, Some, None, refl, ap, sym, ◌∙◌}
+use Rattle.std.proofs.Math.Bool.{and-false, and-true}
 use Rattle.std.specs.Option.{option_map}
 use Rattle.std.specs.List.{list_any}
 use Rattle.sid_core.specs.declared.ids.OpenId.{OpenId}
@@ -25,20 +26,12 @@ find_alike : {X : Type 0} (p q : X → Bool) → ((x : X) → p x ≡ q x) → (
 find_alike p q h [] = refl
 find_alike p q h (x ∷ xs) = ap (λ b. cond b (Some x) (find p xs)) (h x) ∙ ap (cond (q x) (Some x)) (find_alike p q h xs)
 
-and_true : (b : Bool) → (b && true) ≡ b
-and_true true = refl
-and_true false = refl
-
-and_false : (b : Bool) → (b && false) ≡ false
-and_false true = refl
-and_false false = refl
-
 -- ---- which opens count
 
 any_in_ids : (id : OpenId) (b : Bool) (e : ShareEntry) (es : List ShareEntry) (c : Bool) → list_any (λ v. same_id v id) (map (λ (e : ShareEntry). e.id) es) ≡ c
     → list_any (λ v. same_id v id) (map (λ (e : ShareEntry). e.id) (cond b (e ∷ es) es)) ≡ ((same_id e.id id && b) || c)
-any_in_ids id true e es c more = ap (λ d. same_id e.id id || d) more ∙ ap (λ d. d || c) (sym (and_true (same_id e.id id)))
-any_in_ids id false e es c more = more ∙ ap (λ d. d || c) (sym (and_false (same_id e.id id)))
+any_in_ids id true e es c more = ap (λ d. same_id e.id id || d) more ∙ ap (λ d. d || c) (sym (and-true (same_id e.id id)))
+any_in_ids id false e es c more = more ∙ ap (λ d. d || c) (sym (and-false (same_id e.id id)))
 
 ids_of_counted : (records : Records) (file : ℕ) (id : OpenId) (es : List ShareEntry)
     → list_any (λ v. same_id v id) (map (λ (e : ShareEntry). e.id) (filter (entry_counts records file) es)) ≡ list_any (λ e. same_id e.id id && entry_counts records file e) es

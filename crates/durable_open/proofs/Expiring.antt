@@ -1,5 +1,6 @@
 -- Opens that go one after another are those that go by the leases before.
 use Rattle.std.proofs.Common.{◌≡◌, ◌&&◌, ◌||◌, ◌==◌, not, ℕ, ◌+◌, Bool, true, false, cond, List, [], ◌∷◌, length, filter, map, Option, Some, None, refl, ap, sym, ◌∙◌, arith}
+use Rattle.std.proofs.Math.Bool.{and-false}
 use Rattle.std.specs.Prelude.{nat_le, find}
 use Rattle.std.specs.List.{list_any, AllByRecursion, IsDistinct}
 use Rattle.std.specs.Option.{option_map, option_map_or}
@@ -39,10 +40,6 @@ use Rattle.durable_open.proofs.Reconnects.{lives_by}
 neither : (a b : Bool) → (a || b) ≡ false → (a ≡ false) × (b ≡ false)
 neither true b e = absurd cc
 neither false b e = (refl, e)
-
-and_false : (b : Bool) → (b && false) ≡ false
-and_false true = refl
-and_false false = refl
 
 beside : (a b : Bool) → (a && b) ≡ false → (not a && b) ≡ b
 beside true b e = sym e
@@ -153,7 +150,7 @@ module _ (register : FinMap nat_cmp RegisterRec) (file : ℕ) (now : Moment) whe
       by_id : (t : Bool) → same_id d.id e.id ≡ t → goes register file now L d ≡ true → has_living_ref register d.id rec ≡ false
           → (goes register file now L d ≡ true → same_id d.id e.id ≡ true → (has_expired register file now e && is_kept_by register rec file e) ≡ false)
           → (has_expired register file now e && is_kept_by register (without d.id rec) file e) ≡ (has_expired register file now e && is_kept_by register rec file e)
-      by_id true same gone none differ = ap (λ b. has_expired register file now e && b) (kept_none d.id rec e same) ∙ and_false (has_expired register file now e) ∙ sym (differ gone same)
+      by_id true same gone none differ = ap (λ b. has_expired register file now e && b) (kept_none d.id rec e same) ∙ and-false (has_expired register file now e) ∙ sym (differ gone same)
       by_id false same gone none differ = ap (λ b. has_expired register file now e && b) (kept_same d.id rec e none same)
 
   by_record : (L : LeaseName → Option LeaseRec) (d e : ShareEntry) (n : LeaseName) (l : Option LeaseRec) → L n ≡ l
@@ -248,11 +245,11 @@ module _ (register : FinMap nat_cmp RegisterRec) (file : ℕ) (now : Moment) whe
   -- ---- what the table has
 
   kept_at_split : (L : LeaseName → Option LeaseRec) (e : ShareEntry) (l : Option LeaseRec) → is_kept_at register l file e ≡ (not (e.durable == 0) && keeps (recorded register L) file e.id l)
-  kept_at_split L e None = sym (and_false (not (e.durable == 0)))
+  kept_at_split L e None = sym (and-false (not (e.durable == 0)))
   kept_at_split L e (Some rec) = refl
 
   kept_split : (L : LeaseName → Option LeaseRec) (e : ShareEntry) (o : Option LeaseName) → option_map_or (λ name. is_kept_at register (L name) file e) o false ≡ (not (e.durable == 0) && is_kept (recorded register L) file e.id o)
-  kept_split L e None = sym (and_false (not (e.durable == 0)))
+  kept_split L e None = sym (and-false (not (e.durable == 0)))
   kept_split L e (Some n) = kept_at_split L e (L n)
 
   counted_law : (l d u : Bool) → ((not l && d) && u) ≡ ((l || u) && (not l && d))

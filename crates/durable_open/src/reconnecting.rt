@@ -29,32 +29,29 @@ fn carries(name: LeaseName, lease: Option<LeaseName>) -> bool
     }
 }
 
-fn can_take(
-    register: &Register,
-    lease: &LeaseRec,
+/// The open that is taken up, and what it is judged by: its lease with the lease's name, its file, the moment, and the sessions.
+#[derive(Clone, Copy)]
+struct Wanted<'a> {
+    id: OpenId,
     name: LeaseName,
+    lease: &'a LeaseRec,
     file: u32,
-    now: Moment,
-    entry: &ShareEntry,
-) -> bool
-    ensures { result ≡ can_take register.now lease.now name file now entry.now }
-{
-    can_be_taken(entry, register, now)
-        && (carries(name, entry.lease) && is_kept_by(register, lease, file, entry))
+    moment: Moment,
+    register: &'a Register,
 }
 
-fn is_taken(
-    register: &Register,
-    lease: &LeaseRec,
-    name: LeaseName,
-    file: u32,
-    now: Moment,
-    id: OpenId,
-    entry: &ShareEntry,
-) -> bool
-    ensures { result ≡ is_taken register.now lease.now name file now id entry.now }
+fn can_take(wanted: Wanted<'_>, entry: &ShareEntry) -> bool
+    ensures { result ≡ can_take wanted.entry.register.now wanted.entry.lease.now wanted.entry.name wanted.entry.file wanted.entry.moment entry.now }
 {
-    entry.id == id && can_take(register, lease, name, file, now, entry)
+    can_be_taken(entry, wanted.register, wanted.moment)
+        && (carries(wanted.name, entry.lease)
+            && is_kept_by(wanted.register, wanted.lease, wanted.file, entry))
+}
+
+fn is_taken(wanted: Wanted<'_>, entry: &ShareEntry) -> bool
+    ensures { result ≡ is_taken wanted.entry.register.now wanted.entry.lease.now wanted.entry.name wanted.entry.file wanted.entry.moment wanted.entry.id entry.now }
+{
+    entry.id == wanted.id && can_take(wanted, entry)
 }
 
 fn handed_over(taken: bool, owner: Sid, handle: u32, entry: ShareEntry) -> ShareEntry
@@ -79,21 +76,16 @@ fn either(a: bool, b: bool) -> bool
 
 fn take_over_entries(
     entries: &mut Vec<ShareEntry>,
-    register: &Register,
-    lease: &LeaseRec,
-    name: LeaseName,
-    file: u32,
-    now: Moment,
-    id: OpenId,
+    wanted: Wanted<'_>,
     owner: Sid,
     handle: u32,
 ) -> bool
-    ensures found { result ≡ list_any (is_taken register.now lease.now name file now id) entries.old.items }
-    ensures entries { entries.new.items ≡ map (taken_over (is_taken register.now lease.now name file now id) owner handle) entries.old.items }
+    ensures found { result ≡ list_any (is_taken wanted.entry.register.now wanted.entry.lease.now wanted.entry.name wanted.entry.file wanted.entry.moment wanted.entry.id) entries.old.items }
+    ensures entries { entries.new.items ≡ map (taken_over (is_taken wanted.entry.register.now wanted.entry.lease.now wanted.entry.name wanted.entry.file wanted.entry.moment wanted.entry.id) owner handle) entries.old.items }
 {
     let mut found = false;
     for entry in entries.iter_mut() {
-        let taken = is_taken(register, lease, name, file, now, id, entry);
+        let taken = is_taken(wanted, entry);
         *entry = handed_over(taken, owner, handle, *entry);
         found = either(found, taken);
     }
@@ -167,18 +159,15 @@ pub fn reconnect(
     ensures sets { IsShareRec rec.old → IsLeaseRec lease.old → IsSid owner → IsU32 handle → IsShareRec rec.new × IsLeaseRec lease.new }
 {
     let mut entries = take_entries(&mut rec.entries);
-    let file = rec.file;
-    let found = take_over_entries(
-        &mut entries,
-        register,
-        lease,
-        name,
-        file,
-        now,
+    let wanted = Wanted {
         id,
-        owner,
-        handle,
-    );
+        name,
+        lease,
+        file: rec.file,
+        moment: now,
+        register,
+    };
+    let found = take_over_entries(&mut entries, wanted, owner, handle);
     rec.entries = Items::from_vec(entries);
     if found {
         take_over_lease(lease, register, id, owner);

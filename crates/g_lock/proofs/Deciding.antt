@@ -1,5 +1,5 @@
 -- What a table decides of a `glock`, by what it finds; and that the answer tells it.
-use Rattle.std.proofs.Common.{◌≡◌, ◌&&◌, ◌||◌, ℕ, Bool, true, false, cond, List, [], ◌∷◌, filter, find, Option, Some, None, refl, ap, sym, ◌∙◌}
+use Rattle.std.proofs.Common.{◌≡◌, ◌&&◌, ℕ, Bool, true, false, cond, List, [], ◌∷◌, filter, find, Option, Some, None, refl, ap, sym, ◌∙◌}
 use Rattle.std.specs.Option.{option_map, option_map_or}
 use Rattle.std.specs.List.{list_any}
 use Rattle.std.proofs.lemmas.Bool.{or_right}
@@ -16,7 +16,7 @@ use Rattle.serial_table.specs.declared.decision.Decision.{Decision}
 use Rattle.serial_table.specs.View.{View}
 use Rattle.serial_table.specs.Change.{same_mode}
 use Rattle.serial_table.specs.Decision.{only_reply}
-use Rattle.serial_table.specs.GlobalLock.{own_holds, other_holds, keeps_out, other_upgrades, granted_by, wait_for_lock, lower, raise, change_hold, gain_hold, glock_by, glock}
+use Rattle.serial_table.specs.GlobalLock.{own_holds, other_holds, keeps_out, other_upgrades, granted_by, wait_for_lock, lower, raise, change_hold, gain_hold, glock_by}
 use Rattle.serial_table.proofs.Filters.{filter_all}
 use Rattle.serial_table.proofs.Heads.{by_first, by_first_of_both}
 use Rattle.record_codec.specs.declared.watch.WatchRec.{WatchRec}
@@ -24,7 +24,7 @@ use Rattle.record_codec.specs.declared.glock_rec.Hold.{Hold}
 use Rattle.record_rows.specs.Rows.{watch_row, hold_row}
 use Rattle.g_lock.specs.Answer.{without_changes, told, first_owner, who_keeps_out, NamesHolder, NamesOther}
 use Rattle.g_lock.specs.Scans.{answered}
-use Rattle.g_lock.proofs.Found.{is_owned, is_others, is_upgrade}
+use Rattle.g_lock.proofs.Found.{is_owned, is_others, is_upgrade, any_is}
 
 -- ---- by what is found
 
@@ -88,14 +88,6 @@ module _ (v : View) (caller : Caller) (key : ℕ) where
       → (blocker : Sid) → cond (other_upgrades v caller key) (only_reply reply.PossibleDeadlock) (wait_for_lock caller key blocker true) ≡ raising_behind caller key true blocker beside
   upgrade_of None o e any blocker = ap (λ b. cond b (only_reply reply.PossibleDeadlock) (wait_for_lock caller key blocker true)) (any ∙ ap (λ o. option_map_or (λ _. true) o false) e)
   upgrade_of (Some watch) o e any blocker = ap (λ b. cond b (only_reply reply.PossibleDeadlock) (wait_for_lock caller key blocker true)) (any ∙ ap (λ o. option_map_or (λ _. true) o false) e)
-
-  any_here : {X : Type 0} (b : Bool) (x : X) (rest : Option X) (c : Bool) → c ≡ option_map_or (λ _. true) rest false → (b || c) ≡ option_map_or (λ _. true) (cond b (Some x) rest) false
-  any_here true x rest c e = refl
-  any_here false x rest c e = e
-
-  any_is : {X : Type 0} (p : X → Bool) (xs : List X) → list_any p xs ≡ option_map_or (λ _. true) (find p xs) false
-  any_is p [] = refl
-  any_is p (x ∷ xs) = any_here (p x) x (find p xs) (list_any p xs) (any_is p xs)
 
   raised_by : (wait : Bool) (first : Option Hold) (beside : Option WatchRec) → find (is_upgrade caller.sid) (v.watches_on (LockOf key)) ≡ option_map watch_row beside
       → option_map_or (λ row. raise v caller key wait (row ∷ [])) (option_map (hold_row key) first) (raise v caller key wait []) ≡ raising caller key wait first beside

@@ -1,6 +1,7 @@
 -- What is found in a record is what a table finds that has what counts in it.
-use Rattle.std.proofs.Common.{◌≡◌, ◌&&◌, not, ℕ, Bool, true, false, cond, List, [], ◌∷◌, filter, find, Some, refl, ap, ◌∙◌}
-use Rattle.std.specs.Option.{option_map}
+use Rattle.std.proofs.Common.{◌≡◌, ◌&&◌, ◌||◌, not, ℕ, Bool, true, false, cond, List, [], ◌∷◌, filter, find, Option, Some, refl, ap, ◌∙◌}
+use Rattle.std.specs.List.{list_any}
+use Rattle.std.specs.Option.{option_map, option_map_or}
 use Rattle.std.specs.Ordering.{nat_cmp}
 use Rattle.std.specs.FinMap.{FinMap}
 use Rattle.sid_core.specs.declared.ids.Sid.{Sid}
@@ -44,6 +45,15 @@ module _ {X : Type 0} where
   pub find_kept : (p q : X → Bool) → ((x : X) → p x ≡ true → q x ≡ true) → (xs : List X) → find (λ x. q x && p x) xs ≡ find p xs
   find_kept p q h [] = refl
   find_kept p q h (x ∷ xs) = ap (λ b. cond b (Some x) (find (λ x. q x && p x) xs)) (both_kept (q x) (p x) (h x)) ∙ ap (cond (p x) (Some x)) (find_kept p q h xs)
+
+  any_here : (b : Bool) (x : X) (rest : Option X) (c : Bool) → c ≡ option_map_or (λ _. true) rest false → (b || c) ≡ option_map_or (λ _. true) (cond b (Some x) rest) false
+  any_here true x rest c e = refl
+  any_here false x rest c e = e
+
+  -- one is there where one is found
+  pub any_is : (p : X → Bool) (xs : List X) → list_any p xs ≡ option_map_or (λ _. true) (find p xs) false
+  any_is p [] = refl
+  any_is p (x ∷ xs) = any_here (p x) x (find p xs) (list_any p xs) (any_is p xs)
 
 -- the holds of a living session count
 pub own_counts : (register : FinMap nat_cmp RegisterRec) (sid : Sid) → lives (registered register) sid ≡ true → (hold : Hold) → is_own sid hold ≡ true → hold_counts (registered register) hold ≡ true

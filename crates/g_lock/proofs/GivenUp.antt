@@ -1,5 +1,5 @@
 -- What a table decides of a `gunlock`.
-use Rattle.std.proofs.Common.{◌≡◌, ◌&&◌, ◌||◌, ◌==◌, not, ℕ, Bool, true, false, cond, List, [], ◌∷◌, ◌++◌, length, ◌≤◌, filter, map, find, Option, Some, None, refl, ap, sym, subst, ◌∙◌, arith, eq-eqb}
+use Rattle.std.proofs.Common.{◌≡◌, ◌&&◌, ◌||◌, not, ℕ, Bool, true, false, cond, List, [], ◌∷◌, ◌++◌, length, ◌≤◌, filter, map, find, Option, Some, None, refl, ap, sym, subst, ◌∙◌, arith, eq-eqb}
 use Rattle.std.specs.Option.{option_map, option_map_or}
 use Rattle.std.specs.List.{list_any, AllByRecursion}
 use Rattle.std.specs.Ordering.{nat_cmp}
@@ -31,18 +31,10 @@ use Rattle.record_rows.specs.Rows.{hold_row}
 use Rattle.g_lock.specs.Holds.{counted_holds, AsksBefore}
 use Rattle.g_lock.specs.Answer.{holds_after}
 use Rattle.g_lock.specs.Scans.{is_own}
-use Rattle.g_lock.proofs.Found.{is_owned, own_found}
+use Rattle.g_lock.proofs.Found.{is_owned, any_is, own_found}
 use Rattle.g_lock.proofs.Held.{after_waits}
 
--- ---- a hold is there where one is found
-
-any_here : {X : Type 0} (b : Bool) (x : X) (rest : Option X) (c : Bool) → c ≡ option_map_or (λ _. true) rest false → (b || c) ≡ option_map_or (λ _. true) (cond b (Some x) rest) false
-any_here true x rest c e = refl
-any_here false x rest c e = e
-
-any_is : {X : Type 0} (p : X → Bool) (xs : List X) → list_any p xs ≡ option_map_or (λ _. true) (find p xs) false
-any_is p [] = refl
-any_is p (x ∷ xs) = any_here (p x) x (find p xs) (list_any p xs) (any_is p xs)
+-- ---- the holds of the others
 
 none_here : {X : Type 0} (b c : Bool) (x : X) (rest xs : List X) → (c ≡ false → rest ≡ xs) → (b || c) ≡ false → cond (not b) (x ∷ rest) rest ≡ x ∷ xs
 none_here true c x rest xs h e = absurd cc

@@ -22,20 +22,23 @@ use std::mem;
 
 // ---- what is answered
 
-fn raise_behind(
-    watchers: &[WatchRec],
-    mails: &Mails,
+/// The session that asks for the lock of this key, whether it waits, and the sessions and mailboxes by which others count.
+#[derive(Clone, Copy)]
+struct Asking<'a> {
     key: u64,
     sid: Sid,
     wait: bool,
-    holder: Sid,
-) -> GAnswer
-    ensures { result ≡ raised_behind wait holder (find (is_upgrade_beside mails.now key sid) watchers.now) }
+    register: &'a Register,
+    mails: &'a Mails,
+}
+
+fn raise_behind(asking: Asking<'_>, watchers: &[WatchRec], holder: Sid) -> GAnswer
+    ensures { result ≡ raised_behind asking.entry.wait holder (find (is_upgrade_beside asking.entry.mails.now asking.entry.key asking.entry.sid) watchers.now) }
 {
-    if !wait {
+    if !asking.wait {
         return GAnswer::NotGranted { holder };
     }
-    match first_upgrade_beside(watchers, mails, key, sid) {
+    match first_upgrade_beside(watchers, asking.mails, asking.key, asking.sid) {
         Some(watch) => GAnswer::PossibleDeadlock { other: watch.sid },
         None => GAnswer::Pending {
             blocker: holder,
@@ -44,49 +47,38 @@ fn raise_behind(
     }
 }
 
-fn raise(
-    rec: &GLockRec,
-    key: u64,
-    register: &Register,
-    mails: &Mails,
-    sid: Sid,
-    wait: bool,
-) -> GAnswer
-    ensures { result ≡ raised wait (find (is_in_the_way register.now sid Exclusive) rec.now.holds) (find (is_upgrade_beside mails.now key sid) rec.now.watchers) }
+fn raise(asking: Asking<'_>, rec: &GLockRec) -> GAnswer
+    ensures { result ≡ raised asking.entry.wait (find (is_in_the_way asking.entry.register.now asking.entry.sid Exclusive) rec.now.holds) (find (is_upgrade_beside asking.entry.mails.now asking.entry.key asking.entry.sid) rec.now.watchers) }
 {
-    match first_in_the_way(rec.holds.as_slice(), register, sid, Mode::Exclusive) {
-        Some(first) => raise_behind(rec.watchers.as_slice(), mails, key, sid, wait, first.sid),
+    match first_in_the_way(
+        rec.holds.as_slice(),
+        asking.register,
+        asking.sid,
+        Mode::Exclusive,
+    ) {
+        Some(first) => raise_behind(asking, rec.watchers.as_slice(), first.sid),
         None => GAnswer::Granted,
     }
 }
 
-fn change(
-    rec: &GLockRec,
-    key: u64,
-    register: &Register,
-    mails: &Mails,
-    sid: Sid,
-    wait: bool,
-    held: Mode,
-    asked: Mode,
-) -> GAnswer
-    ensures { result ≡ changed wait held asked (find (is_in_the_way register.now sid asked) rec.now.holds) (find (is_upgrade_beside mails.now key sid) rec.now.watchers) }
+fn change(asking: Asking<'_>, rec: &GLockRec, held: Mode, asked: Mode) -> GAnswer
+    ensures { result ≡ changed asking.entry.wait held asked (find (is_in_the_way asking.entry.register.now asking.entry.sid asked) rec.now.holds) (find (is_upgrade_beside asking.entry.mails.now asking.entry.key asking.entry.sid) rec.now.watchers) }
 {
     match (held, asked) {
         (Mode::Shared, Mode::Shared) => GAnswer::Granted,
         (Mode::Exclusive, Mode::Exclusive) => GAnswer::Granted,
         (Mode::Exclusive, Mode::Shared) => GAnswer::Lowered,
-        (Mode::Shared, Mode::Exclusive) => raise(rec, key, register, mails, sid, wait),
+        (Mode::Shared, Mode::Exclusive) => raise(asking, rec),
     }
 }
 
-fn gain(holds: &[Hold], register: &Register, sid: Sid, mode: Mode, wait: bool) -> GAnswer
-    ensures { result ≡ gained wait (find (is_in_the_way register.now sid mode) holds.now) }
+fn gain(asking: Asking<'_>, holds: &[Hold], mode: Mode) -> GAnswer
+    ensures { result ≡ gained asking.entry.wait (find (is_in_the_way asking.entry.register.now asking.entry.sid mode) holds.now) }
 {
-    match first_in_the_way(holds, register, sid, mode) {
+    match first_in_the_way(holds, asking.register, asking.sid, mode) {
         None => GAnswer::Granted,
         Some(first) => {
-            if wait {
+            if asking.wait {
                 GAnswer::Pending {
                     blocker: first.sid,
                     upgrade: false,
@@ -98,21 +90,12 @@ fn gain(holds: &[Hold], register: &Register, sid: Sid, mode: Mode, wait: bool) -
     }
 }
 
-fn answer(
-    rec: &GLockRec,
-    key: u64,
-    register: &Register,
-    mails: &Mails,
-    sid: Sid,
-    mode: Mode,
-    wait: bool,
-    own: Option<Hold>,
-) -> GAnswer
-    ensures { result ≡ answered wait mode own (find (is_in_the_way register.now sid mode) rec.now.holds) (find (is_upgrade_beside mails.now key sid) rec.now.watchers) }
+fn answer(asking: Asking<'_>, rec: &GLockRec, mode: Mode, own: Option<Hold>) -> GAnswer
+    ensures { result ≡ answered asking.entry.wait mode own (find (is_in_the_way asking.entry.register.now asking.entry.sid mode) rec.now.holds) (find (is_upgrade_beside asking.entry.mails.now asking.entry.key asking.entry.sid) rec.now.watchers) }
 {
     match own {
-        Some(hold) => change(rec, key, register, mails, sid, wait, hold.mode, mode),
-        None => gain(rec.holds.as_slice(), register, sid, mode, wait),
+        Some(hold) => change(asking, rec, hold.mode, mode),
+        None => gain(asking, rec.holds.as_slice(), mode),
     }
 }
 
@@ -228,6 +211,13 @@ pub fn lock(
     ensures sets { IfAnswered result (IsGLockRec rec.old → IsSid sid → length rec.old.holds + 1 < 2 ^ 32 → IsGLockRec rec.new) }
 {
     let own = own_hold(rec.holds.as_slice(), sid);
-    let answer = answer(rec, key, register, mails, sid, mode, wait, own);
+    let asking = Asking {
+        key,
+        sid,
+        wait,
+        register,
+        mails,
+    };
+    let answer = answer(asking, rec, mode, own);
     carry_out(&mut rec.holds, sid, mode, own, answer)
 }

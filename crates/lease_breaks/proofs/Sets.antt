@@ -1,7 +1,6 @@
 -- The record of a lease keeps its sets through breaks and acknowledgements.
-use Rattle.std.proofs.Common.{◌≡◌, ℕ, ◌+◌, ◌≤◌, ◌<◌, ◌^◌, Bool, true, false, cond, ◌==◌, ◌&&◌, not, List, [], ◌∷◌, length, filter, Option, Some, None, refl, sym, ap, ◌∙◌, subst, arith}
+use Rattle.std.proofs.Common.{◌≡◌, ℕ, Bool, true, false, cond, ◌==◌, not, Option, Some, None, refl, sym, ap, ◌∙◌, subst, arith}
 use Rattle.std.specs.Prelude.{bit_and}
-use Rattle.std.specs.List.{AllByRecursion}
 use Rattle.std.specs.Option.{option_map_or}
 use Rattle.std.proofs.lemmas.Bool.{cond_both, and_from}
 use Rattle.sid_core.specs.declared.bits.LeaseState.{LeaseState}
@@ -15,10 +14,10 @@ use Rattle.serial_table.specs.Break.{Breaks, no_break, breaks_read, begins_to_br
 use Rattle.serial_table.specs.LeaseBreak.{breaks_of_owner, breaks_further_by, break_by_owner}
 use Rattle.serial_table.proofs.States.{state_and, part_itself, part_and, less_and, part_less}
 use Rattle.record_codec.specs.declared.lease_rec.LeaseRec.{LeaseRec}
-use Rattle.record_codec.specs.declared.lease_rec.LeaseRef.{LeaseRef}
-use Rattle.record_codec.specs.Fields.{IsListOf, is_proper_part_of}
-use Rattle.record_codec.specs.LeaseRec.{IsLeaseRec, IsLeaseRef, IsExpiry}
-use Rattle.record_codec.specs.Counts.{Records, is_unanswered, ref_counts, settled_refs}
+use Rattle.record_codec.specs.Fields.{is_proper_part_of}
+use Rattle.record_codec.specs.LeaseRec.{IsLeaseRec, IsExpiry}
+use Rattle.record_codec.specs.Counts.{Records, is_unanswered}
+use Rattle.record_codec.proofs.Unbroken.{unbroken_sets}
 use Rattle.sid_core.specs.declared.reply.Reply.TheVariants.{RequestNotAccepted}
 use Rattle.serial_table.specs.declared.decision.Decision.{Decision}
 use Rattle.serial_table.specs.Decision.{only_reply}
@@ -45,19 +44,7 @@ IsBreakIn held None = Unit {0}
 IsBreakIn held (Some b) = IsBreakOf held b
 
 pub with_state_keeps : (held : LeaseState) (b : Option Breaking) (r : LeaseRec) → IsLeaseRec r → IsState held.0 → IsBreakIn held b → IsLeaseRec (with_state held b r)
-with_state_keeps held None r h s i = record {
-  file = h.file;
-  held = s;
-  asked = refl;
-  needed = refl;
-  unbroken_asked = λ _. refl;
-  unbroken_needed = λ _. refl;
-  broken_asked = λ e. absurd cc;
-  broken_needed = λ e. absurd cc;
-  unbroken_until = λ _. refl;
-  broken_until = λ e. absurd cc;
-  refs = h.refs;
-}
+with_state_keeps held None r h s i = unbroken_sets r.file held r.refs h.file s h.refs
 with_state_keeps held (Some b) r h s i = record {
   file = h.file;
   held = s;

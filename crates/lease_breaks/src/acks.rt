@@ -10,8 +10,8 @@ ghost use Rattle.lease_breaks.specs.Breaks.{first_connected};
 ghost use Rattle.lease_breaks.specs.Acks.{ack_by_owner, accept_by_owner, Answers};
 
 use crate::breaks::break_by_owner;
-use crate::states::{breaking_of, first_connected, hold, is_part_of};
-use leases_db::settle;
+use crate::states::{first_connected, hold, is_part_of};
+use leases_db::{breaking_of, settle};
 use record_codec::LeaseRec;
 use serial_table::Breaking;
 use server_ids::Register;

@@ -10,8 +10,8 @@ ghost use Rattle.server_ids.specs.Sessions.{registered};
 ghost use Rattle.record_rows.specs.Rows.{lease_row, breaking_of};
 ghost use Rattle.lease_breaks.specs.Breaks.{first_connected, kept, Does};
 
-use crate::states::{breaking_of, common_part, first_connected, hold, is_part_of, set_breaking};
-use leases_db::settle;
+use crate::states::{common_part, first_connected, hold, is_part_of, set_breaking};
+use leases_db::{breaking_of, settle};
 use record_codec::LeaseRec;
 use serial_table::{Breaking, new_breaking};
 use server_ids::Register;
@@ -97,22 +97,6 @@ fn is_read(held: LeaseState) -> bool
     held == LeaseState::READ
 }
 
-fn breaks_to(
-    name: LeaseName,
-    rec: &mut LeaseRec,
-    now: Moment,
-    to: Sid,
-    target: LeaseState,
-) -> Broken
-    ensures { (records : Records) → Does records (breaks_of_owner now rec.old.file (Some to) (lease_row name rec.old) target.0) result rec.old rec.new }
-{
-    if is_read(rec.held) {
-        breaks_read(name, rec, to, target)
-    } else {
-        begins_to_break(name, rec, now, to, target)
-    }
-}
-
 fn breaks_of_owner(
     name: LeaseName,
     rec: &mut LeaseRec,
@@ -125,28 +109,13 @@ fn breaks_of_owner(
 {
     match to {
         None => breaks_at_once(rec, register, target),
-        Some(to) => breaks_to(name, rec, now, to, target),
-    }
-}
-
-fn begins(
-    name: LeaseName,
-    rec: &mut LeaseRec,
-    register: &Register,
-    now: Moment,
-    to: Option<Sid>,
-    kept: LeaseState,
-) -> Broken
-    ensures { Does (registered register.now) (break_by_owner now rec.old.file to kept.0 (lease_row name rec.old) None) result rec.old rec.new }
-{
-    if is_part_of(rec.held, kept) {
-        Broken {
-            post: None,
-            blocks: None,
+        Some(to) => {
+            if is_read(rec.held) {
+                breaks_read(name, rec, to, target)
+            } else {
+                begins_to_break(name, rec, now, to, target)
+            }
         }
-    } else {
-        let target = common_part(rec.held, kept);
-        breaks_of_owner(name, rec, register, now, to, target)
     }
 }
 
@@ -184,7 +153,17 @@ pub(crate) fn break_by_owner(
 {
     match breaking_of(rec) {
         Some(breaking) => breaks_further(rec, breaking, to, kept),
-        None => begins(name, rec, register, now, to, kept),
+        None => {
+            if is_part_of(rec.held, kept) {
+                Broken {
+                    post: None,
+                    blocks: None,
+                }
+            } else {
+                let target = common_part(rec.held, kept);
+                breaks_of_owner(name, rec, register, now, to, target)
+            }
+        }
     }
 }
 

@@ -3,13 +3,12 @@ ghost use Rattle.std.specs.Option.{option_map};
 ghost use Rattle.sid_core.specs.Values.{is_part_of};
 ghost use Rattle.record_codec.specs.Counts as counts;
 ghost use Rattle.server_ids.specs.Sessions.{registered};
-ghost use Rattle.record_rows.specs.Rows.{breaking_of};
 ghost use Rattle.lease_breaks.specs.Breaks.{with_state, first_connected};
 
 use record_codec::{LeaseRec, LeaseRef};
 use serial_table::Breaking;
 use server_ids::{Register, living};
-use sid_core::{LeaseState, Moment, Sid};
+use sid_core::{LeaseState, Sid};
 
 pub(crate) fn is_part_of(part: LeaseState, whole: LeaseState) -> bool
     ensures { result ≡ is_part_of part.0 whole.0 }
@@ -24,20 +23,6 @@ pub(crate) fn common_part(a: LeaseState, b: LeaseState) -> LeaseState
 }
 
 // ---- a record's state and break
-
-pub(crate) fn breaking_of(rec: &LeaseRec) -> Option<Breaking>
-    ensures { result ≡ breaking_of rec.now }
-{
-    if rec.breaking {
-        Some(Breaking {
-            asked: rec.asked,
-            needed: rec.needed,
-            until: Moment(rec.until),
-        })
-    } else {
-        None
-    }
-}
 
 /// It holds that, and isn't breaking.
 pub(crate) fn hold(rec: &mut LeaseRec, held: LeaseState)

@@ -12,6 +12,7 @@ use Rattle.std.specs.BTreeMap.{is_at}
 use Rattle.std.specs.FinMap.{FinMap, from_entries, get, insert, remove, find, get-from_entries, get-insert, get-remove, same_map, IsAntisymmetric, nat_cmp-IsAntisymmetric}
 use Rattle.sid_core.specs.declared.ids.LeaseName.{LeaseName}
 use Rattle.sid_core.specs.Ids.{same_name}
+use Rattle.server_ids.proofs.Maps.{lent_so}
 use Rattle.leases_db.specs.Names.{name_cmp, named}
 
 -- the order of pairs of numbers
@@ -73,14 +74,15 @@ module _ {X : Type 0} where
       get_is fs q ∙ h (pair_of q) ∙ ap (λ b. cond b (Some v) (lookup (is_at (pair_cmp (pair_of q))) es)) ((eq_by_cmp_equiv total).symm k q)
       ∙ sym (get-insert total (from_entries (named es)) k v q ∙ ap (cond (eq_by_cmp name_cmp q k) (Some v)) (get_is es q)))
 
+  -- and so the map of which a record is lent, where it has one, once this record is left
+  pub lent_at : (es fs : List ((ℕ × ℕ) × X)) (m : FinMap name_cmp X) (k : LeaseName) (v : X) (r : Option (MutBor X)) → from_entries (named es) ≡ m → option_copied_mut r ≡ lookup (is_at (pair_cmp (pair_of k))) es
+      → (IsSome (lookup (is_at (pair_cmp (pair_of k))) es) → (q : ℕ × ℕ) → lookup (is_at (pair_cmp q)) fs ≡ cond (is_at (pair_cmp (pair_of k)) q) (Some v) (lookup (is_at (pair_cmp q)) es))
+      → OnSome r (from_entries (named fs) ≡ insert m k v)
+  lent_at es fs m k v r is lent h = lent_so r _ _ lent (λ some. inserted es fs k v (h some) ∙ ap (λ m. insert m k v) is)
+
   pub removed : (es fs : List ((ℕ × ℕ) × X)) (k : LeaseName)
       → ((q : ℕ × ℕ) → lookup (is_at (pair_cmp q)) fs ≡ cond (is_at (pair_cmp (pair_of k)) q) None (lookup (is_at (pair_cmp q)) es))
       → from_entries {R = name_cmp} (named fs) ≡ remove (from_entries (named es)) k
   removed es fs k h = same_map total antisymmetric _ _ (λ q.
       get_is fs q ∙ h (pair_of q) ∙ ap (λ b. cond b None (lookup (is_at (pair_cmp (pair_of q))) es)) ((eq_by_cmp_equiv total).symm k q)
       ∙ sym (get-remove total (from_entries (named es)) k q ∙ ap (cond (eq_by_cmp name_cmp q k) None) (get_is es q)))
-
--- what is said where there was a record is said of what is lent of it
-pub lent_so : {X : Type 0} (r : Option (MutBor X)) (o : Option X) (P : Type 0) → option_copied_mut r ≡ o → (IsSome o → P) → OnSome r P
-lent_so None o P e h = tt
-lent_so (Some r) o P e h = h (subst IsSome e refl)

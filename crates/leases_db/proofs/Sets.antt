@@ -1,9 +1,8 @@
 -- Records whose values keep their sets.
-use Rattle.std.proofs.Common.{◌≡◌, ◌&&◌, not, ℕ, ◌+◌, ◌<◌, ◌≤◌, ◌^◌, Bool, true, false, cond, List, [], ◌∷◌, ◌++◌, length, filter, Option, Some, None, refl, ap, sym, subst, ◌∙◌, arith}
-use Rattle.std.specs.Prelude.{bit_and, bit_or}
+use Rattle.std.proofs.Common.{◌≡◌, ◌&&◌, not, ℕ, ◌+◌, ◌<◌, ◌≤◌, ◌^◌, Bool, true, false, cond, List, [], ◌∷◌, ◌++◌, length, filter, Option, Some, None, refl, sym, subst, arith}
+use Rattle.std.specs.Prelude.{bit_or}
 use Rattle.std.specs.List.{AllByRecursion}
 use Rattle.std.proofs.lemmas.List.{length-append}
-use Rattle.std.proofs.lemmas.Bool.{and_parts}
 use Rattle.sid_core.specs.declared.bits.LeaseState.{LeaseState}
 use Rattle.sid_core.specs.Values.{IsU32, IsState, is_part_of}
 use Rattle.serial_table.specs.Break.{all_but_write}
@@ -13,26 +12,15 @@ use Rattle.record_codec.specs.declared.lease_rec.LeaseRef.{LeaseRef}
 use Rattle.record_codec.specs.declared.lease_rec.LeaseRec.{LeaseRec}
 use Rattle.record_codec.specs.Fields.{IsListOf}
 use Rattle.record_codec.specs.LeaseRec.{IsLeaseRef, IsLeaseRec}
+use Rattle.record_codec.proofs.Unbroken.{unbroken_sets}
 use Rattle.leases_db.specs.Breaks.{broken}
 use Rattle.leases_db.specs.Granted.{IsRecord}
-use Rattle.leases_db.specs.Granting.{may_hold, new_lease, grows, old_lease, lease_with, lease_by, with_ref}
+use Rattle.leases_db.specs.Granting.{may_hold, new_lease, grows, lease_with, lease_by, with_ref}
 use Rattle.leases_db.specs.Refs.{refs_of}
 use Rattle.leases_db.proofs.Lists.{all_kept}
 
 pub broken_sets : (rec : LeaseRec) → IsLeaseRec rec → IsLeaseRec (broken rec)
-broken_sets rec sets = record {
-  file = sets.file;
-  held = sets.needed;
-  asked = refl;
-  needed = refl;
-  unbroken_asked = λ _. refl;
-  unbroken_needed = λ _. refl;
-  broken_asked = λ e. absurd cc;
-  broken_needed = λ e. absurd cc;
-  unbroken_until = λ _. refl;
-  broken_until = λ e. absurd cc;
-  refs = sets.refs;
-}
+broken_sets rec sets = unbroken_sets rec.file rec.needed rec.refs sets.file sets.needed sets.refs
 
 pub broken_or_not : (b : Bool) (rec : LeaseRec) → IsLeaseRec rec → IsLeaseRec (cond b (broken rec) rec)
 broken_or_not true rec sets = broken_sets rec sets
@@ -80,19 +68,7 @@ may_is true state h = h
 may_is false state h = state_and state.0 all_but_write h refl
 
 new_sets : (file may : ℕ) → IsU32 file → IsState may → IsLeaseRec (new_lease file may)
-new_sets file may is held = record {
-  file = is;
-  held = held;
-  asked = refl;
-  needed = refl;
-  unbroken_asked = λ _. refl;
-  unbroken_needed = λ _. refl;
-  broken_asked = λ e. absurd cc;
-  broken_needed = λ e. absurd cc;
-  unbroken_until = λ _. refl;
-  broken_until = λ e. absurd cc;
-  refs = record { few = omega arith; each = tt };
-}
+new_sets file may is held = unbroken_sets file (record { 0 = may }) [] is held (record { few = omega arith; each = tt })
 
 -- a lease that isn't breaking may hold any state
 held_sets : (rec : LeaseRec) (held : LeaseState) → IsLeaseRec rec → rec.breaking ≡ false → IsState held.0 → IsLeaseRec (record rec { held = held })

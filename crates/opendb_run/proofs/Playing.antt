@@ -1,5 +1,6 @@
 -- The history that one thread makes is legal, and fits the script.
 use Rattle.std.proofs.Common.{◌≡◌, ◌==◌, ℕ, zero, suc, ◌+◌, ◌≤◌, inl, Bool, true, false, cond, ◌&&◌, IsTrue, List, [], ◌∷◌, ◌++◌, length, map, take, drop, is_some, Option, Some, None, refl, sym, ap, ◌∙◌, subst, append_assoc, append-nil, zero-add, take-append-drop, arith}
+use Rattle.std.proofs.Math.Bool.{and-false, and-true}
 use Rattle.std.specs.List.{AllByRecursion, flat_map}
 use Rattle.std.proofs.lemmas.Bool.{and_from}
 use Rattle.std.proofs.lemmas.Bool.Decides.{nat_tests}
@@ -52,20 +53,12 @@ calls_step w e1 e2 es true false none = refl
 calls_step w e1 e2 es false true none = ap (λ l. l ++ calls_of w es) none
 calls_step w e1 e2 es false false none = refl
 
-and_true : (b : Bool) → (b && true) ≡ b
-and_true true = refl
-and_true false = refl
-
-and_false : (b : Bool) → (b && false) ≡ false
-and_false true = refl
-and_false false = refl
-
 deaths_step : (w : ℕ) (e1 e2 : Entry) (es : List Entry) (b1 b2 : Bool) → is_death_of w e1.what ≡ false
     → deaths_of w (either b1 e1 ++ (either b2 e2 ++ es)) ≡ cond (is_death_of w e2.what && b2) 1 0 + deaths_of w es
-deaths_step w e1 e2 es true true none = rw (none, and_true (is_death_of w e2.what)) (zero-add (cond (is_death_of w e2.what) 1 0 + deaths_of w es))
-deaths_step w e1 e2 es true false none = rw (none, and_false (is_death_of w e2.what)) refl
-deaths_step w e1 e2 es false true none = rw (and_true (is_death_of w e2.what)) refl
-deaths_step w e1 e2 es false false none = rw (and_false (is_death_of w e2.what)) (sym (zero-add (deaths_of w es)))
+deaths_step w e1 e2 es true true none = rw (none, and-true (is_death_of w e2.what)) (zero-add (cond (is_death_of w e2.what) 1 0 + deaths_of w es))
+deaths_step w e1 e2 es true false none = rw (none, and-false (is_death_of w e2.what)) refl
+deaths_step w e1 e2 es false true none = rw (and-true (is_death_of w e2.what)) refl
+deaths_step w e1 e2 es false false none = rw (and-false (is_death_of w e2.what)) (sym (zero-add (deaths_of w es)))
 
 last_step : (w : ℕ) (e1 e2 : Entry) (es : List Entry) (b1 b2 : Bool) → (IsTrue (is_death_of w e1.what) → ⊥) → (IsTrue (is_death_of w e2.what) → IsTrue b2 → calls_of w es ≡ []) → CallsBeforeDeath w es
     → CallsBeforeDeath w (either b1 e1 ++ (either b2 e2 ++ es))

@@ -149,16 +149,27 @@ module _ (setup : Setup) where
   pub phase_taken : (t : Table) (phases : List Phase) (i : ℕ) (p : Phase) → i < length phases → p ≡ get_or phases i p → TakesPhases setup t (drop i phases) → TakesPhase setup t p
   phase_taken t phases i p h item all = (phase_first t phases i p h item all).0
 
-  pub phase_rest : (t next : Table) (phases : List Phase) (i : ℕ) (p : Phase) → i < length phases → p ≡ get_or phases i p → next ≡ after_phase setup t p → TakesPhases setup t (drop i phases) → TakesPhases setup next (drop (i + 1) phases)
+  phase_rest : (t next : Table) (phases : List Phase) (i : ℕ) (p : Phase) → i < length phases → p ≡ get_or phases i p → next ≡ after_phase setup t p → TakesPhases setup t (drop i phases) → TakesPhases setup next (drop (i + 1) phases)
   phase_rest t next phases i p h item moved all = subst (λ u. TakesPhases setup u (drop (i + 1) phases)) (sym moved) (phase_first t phases i p h item all).1
 
   one_more : (phases : List Phase) (i : ℕ) (p : Phase) → i < length phases → p ≡ get_or phases i p → take (i + 1) phases ≡ take i phases ++ p ∷ []
   one_more phases i p h item = take_more phases i p h ∙ ap (λ (q : Phase). take i phases ++ q ∷ []) (sym item)
 
-  pub phase_table : (t now next : Table) (phases : List Phase) (i : ℕ) (p : Phase) → i < length phases → p ≡ get_or phases i p → now ≡ after_phases setup t (take i phases) → next ≡ after_phase setup now p
+  phase_table : (t now next : Table) (phases : List Phase) (i : ℕ) (p : Phase) → i < length phases → p ≡ get_or phases i p → now ≡ after_phases setup t (take i phases) → next ≡ after_phase setup now p
       → next ≡ after_phases setup t (take (i + 1) phases)
   phase_table t now next phases i p h item so_far moved =
       moved ∙ ap (λ u. after_phase setup u p) so_far ∙ sym (after_phases-append t (take i phases) (p ∷ [])) ∙ ap (after_phases setup t) (sym (one_more phases i p h item))
+
+  -- the table behind the phases so far, and that it takes those that are left
+  pub record PhaseMore (t next : Table) (phases : List Phase) (i : ℕ) : Type 0 where
+    pub table : next ≡ after_phases setup t (take i phases)
+    pub taken : TakesPhases setup next (drop i phases)
+
+  pub phase_more : (t now next : Table) (phases : List Phase) (i : ℕ) (p : Phase) → i < length phases → p ≡ get_or phases i p → PhaseMore t now phases i → next ≡ after_phase setup now p → PhaseMore t next phases (i + 1)
+  phase_more t now next phases i p h item so_far moved = record {
+    table = phase_table t now next phases i p h item so_far.table moved;
+    taken = phase_rest now next phases i p h item moved so_far.taken;
+  }
 
   text_more : (t now : Table) (phases : List Phase) (i : ℕ) (p : Phase) → i < length phases → p ≡ get_or phases i p → now ≡ after_phases setup t (take i phases)
       → text_of_phases setup t (take (i + 1) phases) ≡ text_of_phases setup t (take i phases) ++ text_of_phase setup now p

@@ -80,8 +80,10 @@ fn tables_under(
     Ok(bytes)
 }
 
-/// Makes one call, prints its line, the letters that it posts and the tables that it shows, and tells the gate.
-fn make_call<G: Gate>(
+/// Makes a call, unless its worker dies before it commits: prints its line, the letters that it posts and the tables that it shows, and
+/// tells the gate.
+#[tactic(auto, unfolding(crate::specs::Play::after_call, crate::specs::Playing::text_of_call))]
+fn play_call<G: Gate>(
     alloc: Global,
     table: &mut Table,
     text: &mut Text,
@@ -91,13 +93,16 @@ fn make_call<G: Gate>(
     gate: &G,
 ) -> Result<(), OutOfMemory>
     requires few { length setup.now.workers ≤ MAX_WORKERS }
-    requires taken { IsLegalEvent setup.now table.old planned.now.worker (call_event setup.now table.old moment planned.now) }
+    requires taken { IsTrue (is_entered planned.now.stop) → IsLegalEvent setup.now table.old planned.now.worker (call_event setup.now table.old moment planned.now) }
     requires next { IfSome (caller_of setup.now (view table.old) planned.now.worker planned.now.number moment) (λ caller. caller.sid.session + 1 < 2 ^ 32) }
     requires settled { settle table.old ≡ table.old }
-    ensures table { OnOk result (table.new ≡ after_event setup.now table.old planned.now.worker (call_event setup.now table.old moment planned.now)) }
-    ensures text { OnOk result (text.new ≡ text.old ++ block setup.now table.old (call_entry setup.now table.old moment planned.now)) }
+    ensures table { OnOk result (table.new ≡ after_call setup.now table.old moment planned.now) }
+    ensures text { OnOk result (text.new ≡ text.old ++ text_of_call setup.now table.old moment planned.now) }
     ensures settled { settle table.new ≡ table.new }
 {
+    if !is_entered(planned.stop) {
+        return Ok(());
+    }
     let Some(caller) = table.caller(setup, planned.worker, planned.number, moment) else {
         unreachable!();
     };
@@ -135,53 +140,7 @@ fn take_death(
     }
 }
 
-/// Enters a worker's death, and prints its line and the letters that it posts.
-fn bury(
-    table: &mut Table,
-    text: &mut Text,
-    setup: &Setup,
-    moment: Moment,
-    planned: &Planned,
-) -> Result<(), OutOfMemory>
-    requires few { length setup.now.workers ≤ MAX_WORKERS }
-    requires taken { IsLegalEvent setup.now table.old 0 (Event.Died planned.now.worker moment) }
-    requires settled { settle table.old ≡ table.old }
-    ensures table { OnOk result (table.new ≡ after_event setup.now table.old 0 (Event.Died planned.now.worker moment)) }
-    ensures text { OnOk result (text.new ≡ text.old ++ block setup.now table.old (death_entry 0 moment planned.now)) }
-    ensures settled { settle table.new ≡ table.new }
-{
-    let posts = take_death(table, setup, moment, planned.worker)?;
-    push_death_line(text, planned.worker)?;
-    push_post_lines(text, setup, posts.as_slice())
-}
-
-/// Makes a call, unless its worker dies before it commits.
-#[tactic(auto, unfolding(crate::specs::Play::after_call, crate::specs::Playing::text_of_call))]
-fn play_call<G: Gate>(
-    alloc: Global,
-    table: &mut Table,
-    text: &mut Text,
-    setup: &Setup,
-    moment: Moment,
-    planned: &Planned,
-    gate: &G,
-) -> Result<(), OutOfMemory>
-    requires few { length setup.now.workers ≤ MAX_WORKERS }
-    requires taken { IsTrue (is_entered planned.now.stop) → IsLegalEvent setup.now table.old planned.now.worker (call_event setup.now table.old moment planned.now) }
-    requires next { IfSome (caller_of setup.now (view table.old) planned.now.worker planned.now.number moment) (λ caller. caller.sid.session + 1 < 2 ^ 32) }
-    requires settled { settle table.old ≡ table.old }
-    ensures table { OnOk result (table.new ≡ after_call setup.now table.old moment planned.now) }
-    ensures text { OnOk result (text.new ≡ text.old ++ text_of_call setup.now table.old moment planned.now) }
-    ensures settled { settle table.new ≡ table.new }
-{
-    if is_entered(planned.stop) {
-        make_call(alloc, table, text, setup, moment, planned, gate)
-    } else {
-        Ok(())
-    }
-}
-
-/// Enters a worker's death, where it dies in this call.
+/// Enters a worker's death, where it dies in this call, and prints its line and the letters that it posts.
 #[tactic(auto, unfolding(crate::specs::Play::after_death, crate::specs::Playing::text_of_death))]
 fn play_death(
     table: &mut Table,
@@ -197,35 +156,15 @@ fn play_death(
     ensures text { OnOk result (text.new ≡ text.old ++ text_of_death setup.now table.old moment planned.now) }
     ensures settled { settle table.new ≡ table.new }
 {
-    if planned.stop.is_some() {
-        bury(table, text, setup, moment, planned)
-    } else {
-        Ok(())
+    if planned.stop.is_none() {
+        return Ok(());
     }
+    let posts = take_death(table, setup, moment, planned.worker)?;
+    push_death_line(text, planned.worker)?;
+    push_post_lines(text, setup, posts.as_slice())
 }
 
-/// Plays one planned call, and its worker's death where it is the worker's last.
-fn play_planned<G: Gate>(
-    alloc: Global,
-    table: &mut Table,
-    text: &mut Text,
-    setup: &Setup,
-    moment: Moment,
-    planned: &Planned,
-    gate: &G,
-) -> Result<(), OutOfMemory>
-    requires few { length setup.now.workers ≤ MAX_WORKERS }
-    requires taken { Takes setup.now table.old moment planned.now }
-    requires settled { settle table.old ≡ table.old }
-    ensures table { OnOk result (table.new ≡ after_planned setup.now table.old moment planned.now) }
-    ensures text { OnOk result (text.new ≡ text.old ++ text_of_planned setup.now table.old moment planned.now) }
-    ensures settled { settle table.new ≡ table.new }
-{
-    play_call(alloc, table, text, setup, moment, planned, gate)?;
-    play_death(table, text, setup, moment, planned)
-}
-
-/// Plays a planned call, where it is this worker's.
+/// Plays a planned call, where it is this worker's, and the worker's death where it is its last.
 fn play_if_by<G: Gate>(
     alloc: Global,
     table: &mut Table,
@@ -244,7 +183,8 @@ fn play_if_by<G: Gate>(
     ensures settled { settle table.new ≡ table.new }
 {
     if planned.worker == worker {
-        play_planned(alloc, table, text, setup, moment, planned, gate)
+        play_call(alloc, table, text, setup, moment, planned, gate)?;
+        play_death(table, text, setup, moment, planned)
     } else {
         Ok(())
     }

@@ -1,12 +1,15 @@
 ghost use Rattle.std.specs.Prelude.{◌≡◌, ◌↔◌, ◌≤◌, ◌⊎◌, ℕ, IsTrue, IsSome, IfSome, List, length, map, string_bytes, Some, None};
 ghost use Rattle.std.specs.Io.KnownBytes.{Appends};
 ghost use Rattle.sid_core.specs.Faults.{Rose};
+ghost use Rattle.serial_table.specs.History.{start};
+ghost use Rattle.worker_script.specs.declared.script.Script.{Script};
 ghost use Rattle.worker_script.specs.Script.{IsScript};
 ghost use Rattle.opendb_run.specs.Words.{command};
 ghost use Rattle.opendb_run.specs.Status.{complaint};
 ghost use Rattle.opendb_run.specs.Input.{TakesBefore};
 ghost use Rattle.opendb_run.specs.Output.{AppendsPrefix};
 ghost use Rattle.sid_core.specs.declared.limits.TheConstants.{MAX_SCRIPT};
+ghost use Rattle.opendb_run.specs.Playing.{TakesPhases};
 ghost use Rattle.opendb_run.specs.Run.{IsOutput, IsFirstOutput, HasRun, BreaksAt, IsExpected, is_silent, status_of_cut, ScriptEnded, BytesEnded, InputEnded};
 
 use crate::input::{InputError, read_all};
@@ -35,6 +38,15 @@ fn status_of_cut(cut: Cut) -> Status
     }
 }
 
+/// What a script plans can be entered. The function does nothing, and its clause is the law.
+fn scripts_are_taken()
+    ensures { (script : Script) → IsScript script → TakesPhases script.setup (start script.setup) script.phases }
+{
+    the_living_call();
+    the_living_stay();
+    sessions_rise_by_one();
+}
+
 /// Runs a script, and prints its history.
 fn print_history<O: Sink, G: Gate>(alloc: Global, script: &Script, out: &mut O, gate: &G) -> Status
     requires { IsScript script.now }
@@ -42,9 +54,7 @@ fn print_history<O: Sink, G: Gate>(alloc: Global, script: &Script, out: &mut O, 
     ensures complete { (Rose (O.faults out.old) (O.faults out.new) → ⊥) → (result ≡ Status.OutOfMemory) ⊎ (result ≡ Status.Done) }
     ensures faults { O.faults out.old ≤ O.faults out.new }
 {
-    the_living_call();
-    the_living_stay();
-    sessions_rise_by_one();
+    scripts_are_taken();
     match play(alloc, script, out, gate) {
         Ok(()) => Status::Done,
         Err(cut) => status_of_cut(cut),
@@ -64,9 +74,7 @@ fn print_tables<O: Sink, G: Gate>(
     ensures complete { (Rose (O.faults out.old) (O.faults out.new) → ⊥) → (result ≡ Status.OutOfMemory) ⊎ (result ≡ Status.Done) }
     ensures faults { O.faults out.old ≤ O.faults out.new }
 {
-    the_living_call();
-    the_living_stay();
-    sessions_rise_by_one();
+    scripts_are_taken();
     match show(alloc, script, chosen, out, gate) {
         Ok(()) => Status::Done,
         Err(cut) => status_of_cut(cut),

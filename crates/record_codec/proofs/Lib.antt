@@ -19,5 +19,6 @@ pub mod RangeExact
 pub mod MailExact
 pub mod Versions
 pub mod Settled
+pub mod Unbroken
 pub mod CountsExamples
 pub mod VersionExamples

@@ -112,9 +112,18 @@ module _ (info : FileInfo) (records : Records) (ranges : RangeRec) (opens : Shar
       ∙ flat_map-filter (range_counts (with_share opens records) ranges.file) (λ r. ranges_row info f (rows.range_row ranges.file r)) ranges.ranges
       ∙ (λ i. flat_map (λ r. each r i) ranges.ranges)
 
-module _ {T E : Type 0} (r : Result T E) (old new : List ℕ) (setup : Setup) (records : Records) (ranges : RangeRec) (opens : ShareRec) (same : opens.file ≡ ranges.file) where
-  pub ranges_told : (info : FileInfo) → declared_at setup.files ranges.file ≡ Some info → OnOk r (new ≡ old ++ flat_map (counted_range_row info records ranges.file opens.entries) ranges.ranges)
-      → OnOk r ((f : FileView) → ShowsRanges records ranges opens f → new ≡ old ++ told range_rows setup.files ranges.file f)
-  ranges_told info is then =
-      on_ok_weaker r (λ e. λ f shows.
-      e ∙ ap (λ l. old ++ l) (sym (ranges_are info records ranges opens same f shows) ∙ ap (λ o. option_map_or (λ i. range_rows i f) o []) (sym is))) then
+module _ (setup : Setup) (records : Records) (ranges : RangeRec) (opens : ShareRec) (same : opens.file ≡ ranges.file) where
+  -- the rows of a file that may be declared
+  abbrev rows_by : List ShareEntry → Option FileInfo → List ℕ
+  rows_by entries o = option_map_or (λ info. flat_map (counted_range_row info records ranges.file entries) ranges.ranges) o []
+
+  told_by : (f : FileView) → ShowsRanges records ranges opens f → (o : Option FileInfo) → rows_by opens.entries o ≡ option_map_or (λ info. range_rows info f) o []
+  told_by f shows None = refl
+  told_by f shows (Some info) = sym (ranges_are info records ranges opens same f shows)
+
+  -- a page to which they are added has what is told of the file
+  pub ranges_told : (rows page after : List ℕ) (infos : List FileInfo) (entries : List ShareEntry) → infos ≡ setup.files → entries ≡ opens.entries → rows ≡ page
+      → after ≡ rows ++ option_map_or (λ info. flat_map (counted_range_row info records ranges.file entries) ranges.ranges) (declared_at infos ranges.file) []
+      → (f : FileView) → ShowsRanges records ranges opens f → after ≡ page ++ told range_rows setup.files ranges.file f
+  ranges_told rows page after infos entries of from is e = λ f shows.
+      e ∙ (λ i. is i ++ rows_by (from i) (declared_at (of i) ranges.file)) ∙ ap (λ l. page ++ l) (told_by f shows (declared_at setup.files ranges.file))

@@ -1,5 +1,6 @@
 -- A map of the entries that count finds the open of a range.
 use Rattle.std.proofs.Common.{◌≡◌, ℕ, ◌+◌, ◌<◌, ◌&&◌, Bool, true, false, cond, eqb, List, [], ◌∷◌, ◌++◌, length, get_or, take, find, Option, Some, None, refl, sym, ap, ◌∙◌, arith}
+use Rattle.std.proofs.Math.Bool.{and-false, and-true}
 use Rattle.std.proofs.lemmas.Bool.Decides.{nat_tests}
 use Rattle.std.proofs.lemmas.List.{take_more}
 use Rattle.std.specs.BTreeMap.{BTreeMap}
@@ -48,14 +49,6 @@ key_eq a b = then_eq (nat_cmp a.pid b.pid) (nat_cmp a.call b.call) ∙ (λ i. cm
 
 -- ---- entries
 
-and_true : (b : Bool) → (b && true) ≡ b
-and_true true = refl
-and_true false = refl
-
-and_false : (b : Bool) → (b && false) ≡ false
-and_false true = refl
-and_false false = refl
-
 module _ (records : Records) (file : ℕ) (entries : List ShareEntry) (i : ℕ) (d : ShareEntry) (lt : i < length entries) where
   abbrev entry : ShareEntry
   entry = get_or entries i d
@@ -68,7 +61,7 @@ module _ (records : Records) (file : ℕ) (entries : List ShareEntry) (i : ℕ) 
       → FindsOpens records file old (take i entries) → FindsOpens records file new (take (i + 1) entries)
   finds_counted old new key counts is keeps before = λ id.
       keeps (key_of id)
-      ∙ (λ j. first_found (before id j) (cond ((ap (λ k. is_eq (id_cmp k (key_of id))) is ∙ key_eq entry.id id ∙ sym (and_true (same_id entry.id id)) ∙ ap (λ b. same_id entry.id id && b) (sym counts)) j) (Some entry) None))
+      ∙ (λ j. first_found (before id j) (cond ((ap (λ k. is_eq (id_cmp k (key_of id))) is ∙ key_eq entry.id id ∙ sym (and-true (same_id entry.id id)) ∙ ap (λ b. same_id entry.id id && b) (sym counts)) j) (Some entry) None))
       ∙ sym (more id)
 
   -- another changes nothing
@@ -77,7 +70,7 @@ module _ (records : Records) (file : ℕ) (entries : List ShareEntry) (i : ℕ) 
   finds_uncounted map counts before = λ id.
       before id
       ∙ sym (found_no_more (open_of records file (take i entries) id))
-      ∙ ap (λ b. first_found (open_of records file (take i entries) id) (cond b (Some entry) None)) (sym (ap (λ b. same_id entry.id id && b) counts ∙ and_false (same_id entry.id id)))
+      ∙ ap (λ b. first_found (open_of records file (take i entries) id) (cond b (Some entry) None)) (sym (ap (λ b. same_id entry.id id && b) counts ∙ and-false (same_id entry.id id)))
       ∙ sym (more id)
 
 -- ---- ranges

@@ -11,7 +11,7 @@ ghost use Rattle.leases_db.specs.Rows.{leases_by};
 ghost use Rattle.share_modes.specs.Entries.{known, leased};
 ghost use Rattle.smbstatus_text.specs.Shown.{lease_of_file, ShowsOpens};
 ghost use Rattle.smbstatus_text.specs.Pages.{told, Tells, NoneBetween, NoneBehind};
-ghost use Rattle.smbstatus_text.specs.Rows.{lease_of_entry, entry_row, counted_row};
+ghost use Rattle.smbstatus_text.specs.Rows.{lease_of_entry, counted_row};
 
 use crate::parts::{declared, lease_row, open_row};
 use leases_db::Leases;
@@ -53,23 +53,6 @@ fn lease_of(leases: &Leases, file: u32, entry: &ShareEntry) -> Option<LeaseRow>
     }
 }
 
-fn push_entry(
-    out: &mut Vec<u8>,
-    setup: &Setup,
-    info: &FileInfo,
-    file: u32,
-    entry: &ShareEntry,
-    leases: &Leases,
-    register: &Register,
-) -> Result<(), OutOfMemory>
-    ensures { OnOk result (out.new.items ≡ out.old.items ++ entry_row setup.now info.now (known leases.now register.now) file entry.now) }
-{
-    let connected = living(register, entry.owner);
-    let lease = lease_of(leases, file, entry);
-    let row = open_row(file, entry);
-    push_open_row(out, setup, info, connected, &row, lease)
-}
-
 fn push_counted(
     out: &mut Vec<u8>,
     setup: &Setup,
@@ -82,7 +65,10 @@ fn push_counted(
     ensures { OnOk result (out.new.items ≡ out.old.items ++ counted_row setup.now info.now (known leases.now register.now) file entry.now) }
 {
     if counts(file, entry, leases, register) {
-        push_entry(out, setup, info, file, entry, leases, register)?;
+        let connected = living(register, entry.owner);
+        let lease = lease_of(leases, file, entry);
+        let row = open_row(file, entry);
+        push_open_row(out, setup, info, connected, &row, lease)?;
     }
     Ok(())
 }

@@ -5,8 +5,9 @@ ghost use Rattle.serial_table.specs.ByNumber.{declared_at};
 ghost use Rattle.record_rows.specs.Rows as rows;
 ghost use Rattle.server_ids.specs.Sessions as sessions;
 
+use leases_db::breaking_of;
 use record_codec::{LeaseRec, RangeItem, RegisterRec, ShareEntry};
-use serial_table::{Breaking, LeaseRow, OpenRow, RangeRow, WorkerRow};
+use serial_table::{LeaseRow, OpenRow, RangeRow, WorkerRow};
 use sid_core::{FileInfo, LeaseName, Moment, Span};
 
 pub(crate) fn worker_row(pid: u32, rec: &RegisterRec) -> WorkerRow
@@ -35,20 +36,6 @@ pub(crate) fn open_row(file: u32, entry: &ShareEntry) -> OpenRow
         durable: entry.durable,
         opened: Moment(entry.opened),
         marked: entry.marked,
-    }
-}
-
-fn breaking_of(rec: &LeaseRec) -> Option<Breaking>
-    ensures { result ≡ rows.breaking_of rec.now }
-{
-    if rec.breaking {
-        Some(Breaking {
-            asked: rec.asked,
-            needed: rec.needed,
-            until: Moment(rec.until),
-        })
-    } else {
-        None
     }
 }
 

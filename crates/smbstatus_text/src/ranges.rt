@@ -1,6 +1,8 @@
 ghost use Rattle.std.specs.Prelude.{◌≡◌, ℕ, ◌<◌, ◌++◌, [], IfOk, OnOk};
 ghost use Rattle.std.specs.List.{flat_map};
+ghost use Rattle.std.specs.Option.{option_map_or};
 ghost use Rattle.sid_core.specs.declared.setup.Setup.{Setup};
+ghost use Rattle.serial_table.specs.ByNumber.{declared_at};
 ghost use Rattle.serial_table.specs.View.{View};
 ghost use Rattle.serial_table.specs.File.{FileView, file_view};
 ghost use Rattle.serial_table.specs.Showing.{pid_of_owner};
@@ -107,24 +109,16 @@ fn push_declared(
 
 fn push_file(
     out: &mut Vec<u8>,
-    setup: &Setup,
+    infos: &[FileInfo],
     ranges: &RangeRec,
-    opens: &ShareRec,
+    entries: &[ShareEntry],
     leases: &Leases,
     register: &Register,
 ) -> Result<(), OutOfMemory>
-    requires { opens.now.file ≡ ranges.now.file }
-    ensures { OnOk result ((f : FileView) → ShowsRanges (known leases.now register.now) ranges.now opens.now f → out.new.items ≡ out.old.items ++ told range_rows setup.now.files ranges.now.file f) }
+    ensures { OnOk result (out.new.items ≡ out.old.items ++ option_map_or (λ info. flat_map (counted_range_row info (known leases.now register.now) ranges.now.file entries.now) ranges.now.ranges) (declared_at infos.now ranges.now.file) []) }
 {
-    match declared(setup.files.as_slice(), ranges.file) {
-        Some(info) => push_declared(
-            out,
-            info,
-            ranges,
-            opens.entries.as_slice(),
-            leases,
-            register,
-        ),
+    match declared(infos, ranges.file) {
+        Some(info) => push_declared(out, info, ranges, entries, leases, register),
         None => Ok(()),
     }
 }
@@ -170,7 +164,14 @@ impl RangesPage {
         ensures tells { OnOk result ((v : View) (last : ℕ) → Tells range_rows v setup.now.files last self.old → last < ranges.now.file → NoneBetween v.ranges_of last ranges.now.file → ShowsRanges (known leases.now register.now) ranges.now opens.now (file_view ranges.now.file v)
             → Tells range_rows v setup.now.files ranges.now.file self.new) }
     {
-        push_file(&mut self.rows, setup, ranges, opens, leases, register)
+        push_file(
+            &mut self.rows,
+            setup.files.as_slice(),
+            ranges,
+            opens.entries.as_slice(),
+            leases,
+            register,
+        )
     }
 
     /// The table of a view whose byte ranges are those of the files that were added.

@@ -12,10 +12,9 @@ use Rattle.sid_core.specs.declared.entry.Entry.{Entry}
 use Rattle.sid_core.specs.declared.entry.Event.{Event}
 use Rattle.sid_core.specs.declared.entry.Event.TheVariants.{Called, Died, Tidied}
 use Rattle.sid_core.specs.declared.setup.Setup.{Setup}
-use Rattle.sid_core.specs.Counting.{CountsFrom, RisesAbove}
 use Rattle.sid_core.specs.Setup.{IsSetup}
 use Rattle.serial_table.specs.declared.table.Table.{Table}
-use Rattle.serial_table.specs.History.{start, after, after_entry, after_all, AreLegal, IsLegal, IsLegalEvent, own_seq, seqs_of, own_number, numbers_of}
+use Rattle.serial_table.specs.History.{start, after, after_entry, after_all, IsLegal, IsLegalEvent}
 use Rattle.serial_table.specs.Step.{answer_of, death_of, view_after}
 use Rattle.serial_table.specs.View.{View, view}
 use Rattle.serial_table.proofs.Alike.{view-after_event, after_all-append}
@@ -24,29 +23,12 @@ use Rattle.stored_table.specs.Histories.{moved_from, moved_by}
 use Rattle.stored_table.specs.Move.{move, first_chains}
 use Rattle.stored_table.specs.Stands.{StandsFor}
 use Rattle.stored_table.specs.Decoded.{records_of}
-use Rattle.table_laws.proofs.Chains.{legal_is_fine, flat_joined, counts_before, rises_before}
-use Rattle.table_laws.proofs.HistoryEvents.{history_stands}
+use Rattle.table_laws.proofs.Chains.{legal_is_fine}
+use Rattle.table_laws.proofs.HistoryEvents.{grouped, legal_begin, history_stands}
 use Rattle.table_laws.proofs.Lists.{append_nothing}
 use Rattle.stored_reading.specs.Reading.{view_of_chains}
 use Rattle.stored_reading.specs.Steps.{step, stepped_from, stepped_by, IsLegalAt, IsLegalStep, IsLegalAlike, StepIsMove}
 use Rattle.stored_reading.proofs.Shown.{view_is}
-
--- ---- the beginning of a legal history
-
-grouped : {X : Type 0} (xs ys zs : List X) → (xs ++ ys) ++ zs ≡ xs ++ (ys ++ zs)
-grouped [] ys zs = refl
-grouped (x ∷ xs) ys zs = ap (λ l. x ∷ l) (grouped xs ys zs)
-
-legal_first : (setup : Setup) (t : Table) (first later : List Entry) → AreLegal setup t (first ++ later) → AreLegal setup t first
-legal_first setup t [] later legal = tt
-legal_first setup t (e ∷ first) later legal = (legal.0, legal_first setup (after_entry setup t e) first later legal.1)
-
-pub legal_begin : (setup : Setup) (first later : List Entry) → IsLegal setup (first ++ later) → IsLegal setup first
-legal_begin setup first later legal = record {
-  entries = legal_first setup (start setup) first later legal.entries;
-  counted = λ by. counts_before 1 (seqs_of by first) (seqs_of by later) (subst (CountsFrom 1) (flat_joined (own_seq by) first later) (legal.counted by));
-  rising = λ by. rises_before 0 (numbers_of by first) (numbers_of by later) (subst (RisesAbove 0) (flat_joined (own_number by) first later) (legal.rising by));
-}
 
 -- ---- one entry more
 

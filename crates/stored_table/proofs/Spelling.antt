@@ -63,6 +63,7 @@ use Rattle.record_codec.proofs.LeaseExact.{lease_set}
 use Rattle.record_codec.proofs.RegisterExact.{register_set}
 use Rattle.record_codec.proofs.RangeExact.{range_set}
 use Rattle.record_codec.proofs.MailExact.{mail_set}
+use Rattle.record_codec.proofs.Unbroken.{unbroken_sets}
 use Rattle.record_rows.specs.Rows as rows
 use Rattle.record_rows.specs.Rows.{entry_of, ref_of, item_of, hold_of, watch_of}
 use Rattle.stored_table.specs.Exact.{is_empty, unless_both_empty, share_of, ranges_of, exact_lock, lease_with, lease_record, opens_under, lease_of, exact_lease, register_record, mail_of_session, mail_if_alive}
@@ -281,19 +282,7 @@ module _ (setup : Setup) (t : Table) (is : IsSetup setup) (sets_ : IsInSets setu
       (λ o i. ref_fits setup o (open_in_sets o (in_filter (is_of_file file) t.opens o (in_filter (λ x. table.carries name x.lease) (filter (is_of_file file) t.opens) o i).0).0))
 
   lease_valid : (l : LeaseRow) (b : Option Breaking) (rs : List LeaseRef) → sets.IsLeaseRow setup l → breaks_well l.held.0 b ≡ true → IfSome b sets.IsBreaking → IsListOf IsLeaseRef rs → IsLeaseRec (lease_with l b rs)
-  lease_valid l None rs h well until all = record {
-    file = h.file.number;
-    held = h.held;
-    asked = refl;
-    needed = refl;
-    unbroken_asked = λ _. refl;
-    unbroken_needed = λ _. refl;
-    broken_asked = λ e. absurd cc;
-    broken_needed = λ e. absurd cc;
-    unbroken_until = λ _. refl;
-    broken_until = λ e. absurd cc;
-    refs = all;
-  }
+  lease_valid l None rs h well until all = unbroken_sets l.file l.held rs h.file.number h.held all
   lease_valid l (Some b) rs h well until all =
       let p = and_parts (is_state b.asked.0) _ well in
       let q = and_parts (is_state b.needed.0) _ p.1 in

@@ -30,7 +30,7 @@ use Rattle.stored_table.specs.Exact.{lock_record, exact_lock, register_record, e
 use Rattle.table_laws.proofs.Chains.{IsFine}
 use Rattle.table_laws.proofs.Keywise.{holds_alike, watches_alike, behind_alike, tokens_alike, letters_alike, workers_alike, no_worker, ended_alike}
 use Rattle.table_laws.proofs.PlainAnswers.{hold_row, holds_told, watches_told, watches_back}
-use Rattle.table_laws.proofs.ReconnectAnswers.{rebuilt, ended_of_pid}
+use Rattle.table_laws.proofs.EndedSessions.{rebuilt, ended_of_pid}
 use Rattle.stored_table.specs.Shown.{part_of}
 
 -- ---- who lives has rows

@@ -31,14 +31,14 @@ use Rattle.stored_table.specs.Decoded.{records_of}
 use Rattle.stored_table.specs.Histories.{moved_from, moved_by}
 use Rattle.stored_table.specs.Move.{added, move, places_written, first_chains}
 use Rattle.stored_table.specs.Shown.{part_of}
-use Rattle.stored_table.specs.Stands.{IsWellFormed, StandsFor}
+use Rattle.stored_table.specs.Stands.{AddedHasSpelling, HaveSpellings, IsWellFormed, StandsFor}
 use Rattle.stored_table.proofs.Keeping.{well_formed-move}
 use Rattle.stored_table.proofs.Spelling.{have_spellings, added_has_spelling}
 use Rattle.stored_table.proofs.Starting.{first_chains_stand}
 use Rattle.stored_table.proofs.Whole.{records_moved}
 use Rattle.table_laws.specs.Standing.{IsUnwatched, IsUnnamed, next_sid, call_entry, HistoryStands, NameNothingNew}
 use Rattle.table_laws.proofs.Lists.{append_nothing}
-use Rattle.table_laws.proofs.Chains.{legal_is_fine, flat_joined, counts_before, rises_before}
+use Rattle.table_laws.proofs.Chains.{IsFine, legal_is_fine, flat_joined, counts_before, rises_before}
 use Rattle.table_laws.proofs.Recorded.{IsRecorded, had_perform_all, recorded_after}
 use Rattle.table_laws.proofs.FirstRecords.{first_recorded}
 use Rattle.table_laws.proofs.HandleEvents.{close_stands, delete_stands, unlock_stands, read_stands}
@@ -96,37 +96,57 @@ pub record Names (setup : Setup) (n : ℕ) (done rest : List Entry) (k : Chains)
 
 module _ (setup : Setup) (n : ℕ) (is : IsSetup setup) where
   -- reached, with numbers that are no lower than before
-  abbrev pub IsHigher : (ℕ → ℕ) → (ℕ → ℕ) → Table → Type 0
+  abbrev IsHigher : (ℕ → ℕ) → (ℕ → ℕ) → Table → Type 0
   IsHigher low high t = IsReached high t × ((pid : ℕ) → low pid ≤ high pid)
 
-  pub higher_calls : (low : ℕ → ℕ) → KeptByCalls setup (IsHigher low)
+  higher_calls : (low : ℕ → ℕ) → KeptByCalls setup (IsHigher low)
   higher_calls low high t by number moment call caller p legal of above = (
     calls_reach setup high t by number moment call caller p.0 legal of above,
     λ pid. let a : low pid ≤ high pid = p.1 pid in let b = raised_more high caller.sid.pid number above pid in omega (arith, a, b),
   )
+
+  -- One entry more: the numbers go on, and what is recorded of it has its spellings.
+  pub record NextStep (low : ℕ → ℕ) (done : List Entry) (e : Entry) (rest : List Entry) : Type 0 where
+    pub high : ℕ → ℕ
+    pub more : (pid : ℕ) → low pid ≤ high pid
+    pub reached : IsReached high (after setup (done ++ e ∷ []))
+    pub rises : Rises setup high rest
+    pub fine : IsFine setup (after setup (done ++ e ∷ []))
+    pub spelled : HaveSpellings setup (view (after setup (done ++ e ∷ [])))
+    pub added_spelled : AddedHasSpelling (added setup (view (after setup (done ++ e ∷ []))) e)
+
+  pub next_step : (low : ℕ → ℕ) (done : List Entry) (e : Entry) (rest : List Entry) → IsLegal setup (done ++ e ∷ rest) → IsReached low (after setup done) → Rises setup low (e ∷ rest) → NextStep low done e rest
+  next_step low done e rest legal reached rises =
+      let u = after setup (done ++ e ∷ []) in
+      let next = along_before setup is (IsHigher low) (λ high t caller call p. (expiries_reach setup high t caller call p.0, p.1)) (higher_calls low)
+      (λ high t worker moment caller p timed of. (deaths_reach setup high t worker moment caller p.0 timed of, p.1)) low (after setup done) (e ∷ []) rest (reached, λ pid. omega arith)
+      ((legal_before setup (start setup) done rest e legal.entries).1, tt) rises in
+      let fine = legal_is_fine setup (done ++ e ∷ []) is (legal_begin setup (done ++ e ∷ []) rest (subst (IsLegal setup) (sym (grouped done (e ∷ []) rest)) legal)) in
+      record {
+        high = next.0;
+        more = next.1.1;
+        reached = subst (IsReached next.0) (sym (after_all-append setup (start setup) done e)) next.1.0;
+        rises = next.2;
+        fine = fine;
+        spelled = have_spellings setup u is fine.sets fine.sound.rows fine.bounded;
+        added_spelled = added_has_spelling setup u is fine.sets fine.sound.rows fine.bounded e;
+      }
 
   names_step : (done : List Entry) (e : Entry) (rest : List Entry) (k : Chains) → IsLegal setup (done ++ e ∷ rest) → Names setup n done (e ∷ rest) k
       → Names setup n (done ++ e ∷ []) rest (move setup n k e (view (after setup (done ++ e ∷ []))))
   names_step done e rest k legal q =
       let t = after setup done in
       let u = after setup (done ++ e ∷ []) in
-      let after_is : u ≡ after_entry setup t e = after_all-append setup (start setup) done e in
-      let next = along_before setup is (IsHigher q.low) (λ high t caller call p. (expiries_reach setup high t caller call p.0, p.1)) (higher_calls q.low)
-      (λ high t worker moment caller p timed of. (deaths_reach setup high t worker moment caller p.0 timed of, p.1)) q.low t (e ∷ []) rest (q.reached, λ pid. omega arith)
-      ((legal_before setup (start setup) done rest e legal.entries).1, tt) q.rises in
-      let reached : IsReached next.0 u = subst (IsReached next.0) (sym after_is) next.1.0 in
-      let fine = legal_is_fine setup (done ++ e ∷ []) is (legal_begin setup (done ++ e ∷ []) rest (subst (IsLegal setup) (sym (grouped done (e ∷ []) rest)) legal)) in
-      let spelled = have_spellings setup u is fine.sets fine.sound.rows fine.bounded in
-      let added_spelled = added_has_spelling setup u is fine.sets fine.sound.rows fine.bounded e in
+      let next = next_step q.low done e rest legal q.reached q.rises in
       let still : (sid : Sid) → has_had (view t) sid ≡ true → has_had (view u) sid ≡ true =
-      λ sid h. ap (λ (x : Table). has_had (view x) sid) after_is ∙ had_perform_all sid (changes_of setup (view t) e.by e.what) t h in
+      λ sid h. ap (λ (x : Table). has_had (view x) sid) (after_all-append setup (start setup) done e) ∙ had_perform_all sid (changes_of setup (view t) e.by e.what) t h in
       record {
-        low = next.0;
-        reached = reached;
-        rises = next.2;
-        recorded = subst (IsRecorded next.0 u) (sym (records_moved setup n k e (view u) is q.formed spelled added_spelled))
-            (recorded_after setup (places_written setup n k e) (added setup (view u) e) (records_of setup n k) t u fine.sound.rows q.low next.0 next.1.1 reached.numbered still q.recorded);
-        formed = well_formed-move setup n k e (view u) q.formed spelled added_spelled;
+        low = next.high;
+        reached = next.reached;
+        rises = next.rises;
+        recorded = subst (IsRecorded next.high u) (sym (records_moved setup n k e (view u) is q.formed next.spelled next.added_spelled))
+            (recorded_after setup (places_written setup n k e) (added setup (view u) e) (records_of setup n k) t u next.fine.sound.rows q.low next.high next.more next.reached.numbered still q.recorded);
+        formed = well_formed-move setup n k e (view u) q.formed next.spelled next.added_spelled;
       }
 
   names_first : 1 ≤ n → (history : List Entry) → IsLegal setup history → Names setup n [] history (first_chains setup n)

@@ -39,6 +39,7 @@ pub mod Recorded
 pub mod FirstRecords
 pub mod HistoryEvents
 pub mod Showing
+pub mod FirstKeys
 pub mod Footprints
 pub mod SameFiles
 pub mod Answering
@@ -46,6 +47,7 @@ pub mod HandleAnswers
 pub mod PlainAnswers
 pub mod AckAnswers
 pub mod OpenAnswers
+pub mod EndedSessions
 pub mod ReconnectAnswers
 pub mod ScavengeAnswers
 pub mod OwnOpens

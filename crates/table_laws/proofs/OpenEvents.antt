@@ -68,10 +68,10 @@ use Rattle.serial_table.proofs.GrantOwed.{of_lease}
 use Rattle.serial_table.proofs.InSets.{sid_of}
 use Rattle.serial_table.proofs.SettledSound.{settled-sound}
 use Rattle.chain_map.specs.declared.db.Db.TheVariants as db
-use Rattle.stored_table.specs.Keys.{open_key, pid_key, name_key, file_key}
+use Rattle.stored_table.specs.Keys.{open_key, name_key}
 use Rattle.stored_table.specs.Places.{Chains, Place, place, among}
 use Rattle.stored_table.specs.Decoded.{AllRecords, records_of}
-use Rattle.stored_table.specs.Met.{KeyList, asked_name, met_by_call, met_by_open, all_met, nothing_met}
+use Rattle.stored_table.specs.Met.{asked_name, met_by_call, met_by_open, all_met, nothing_met}
 use Rattle.stored_table.specs.Move.{added, added_by_call, added_by_caller, added_for, id_by, move, places_written}
 use Rattle.stored_table.specs.Moved.{moved}
 use Rattle.stored_table.specs.Stands.{AgreeWith, HasOpenRecords, StandsFor}
@@ -80,6 +80,7 @@ use Rattle.table_laws.proofs.Contained.{share_place, ranges_place, lease_place, 
 use Rattle.table_laws.proofs.Lessened.{Lessened, lessened}
 use Rattle.table_laws.proofs.Fading.{Fades, expired, settles_to, fades, lessened_behind}
 use Rattle.table_laws.proofs.Exactly.{in_opens}
+use Rattle.table_laws.proofs.FirstKeys.{FirstKeys, keys_of_open}
 use Rattle.table_laws.proofs.Meets.{is_among, own_mail, name_met, files_written, leases_met, owner_register, owner_mail, open_watcher_met, range_watcher_met}
 use Rattle.table_laws.proofs.Touching.{touches, reaches, meets_name, contained}
 use Rattle.table_laws.proofs.Deciding.{adds_no_waiter, watch_before, AreContained, AreWatchersMet, IsContained, reply_contained, concluded}
@@ -181,17 +182,8 @@ module _ (setup : Setup) (n : ℕ) (k : Chains) (t : Table) (stands : StandsFor 
   abbrev s : AllRecords
   s = records_of setup n k
 
-  abbrev opens : KeyList
-  opens = open_key info.pid number ∷ []
-
-  abbrev files : KeyList
-  files = file_key setup file ∷ []
-
-  abbrev names : KeyList
-  names = asked_name info lease
-
-  abbrev own : KeyList
-  own = pid_key info.pid ∷ []
+  abbrev keys : FirstKeys
+  keys = keys_of_open setup info number file lease
 
   abbrev pub open_places : List Place
   open_places = all_met (met_by_open setup n k info number file lease)
@@ -205,11 +197,11 @@ module _ (setup : Setup) (n : ℕ) (k : Chains) (t : Table) (stands : StandsFor 
   written : (g : ℕ) → here g ≡ true → (among (share_place setup g) open_places ≡ true) × (among (ranges_place setup g) open_places ≡ true)
   written g e =
       subst (λ g. (among (share_place setup g) open_places ≡ true) × (among (ranges_place setup g) open_places ≡ true)) (eqb-true file g e)
-      (files_written setup n k t stands.agree fine.sound fine.sets opens [] files names own file (inl refl))
+      (files_written setup n k t stands.agree fine.sound fine.sets keys.opens [] keys.files keys.names keys.own file (inl refl))
 
   met_names : (o : OpenRow) → IsIn o t.opens → here o.file ≡ true → IsMetName open_places o.lease
   met_names o i e =
-      leases_met setup n k t stands.agree fine.sound fine.sets opens [] files names own file (inl refl) o
+      leases_met setup n k t stands.agree fine.sound fine.sets keys.opens [] keys.files keys.names keys.own file (inl refl) o
       (subst (λ g. IsIn o ((view t).opens_of g)) (sym (eqb-true file o.file e)) (in_opens t fine.sound o i))
 
   -- the record of the call's open is met
@@ -217,7 +209,7 @@ module _ (setup : Setup) (n : ℕ) (k : Chains) (t : Table) (stands : StandsFor 
   own_record_met = is_among (place db.Opens (open_key info.pid number)) open_places (inl refl)
 
   own_mail_met : among (mail_place caller.sid.pid) open_places ≡ true
-  own_mail_met = ap (λ p. among (mail_place p) open_places) pid ∙ own_mail setup n k t stands.agree fine.sound fine.sets opens [] files names own info.pid (inl refl)
+  own_mail_met = ap (λ p. among (mail_place p) open_places) pid ∙ own_mail setup n k t stands.agree fine.sound fine.sets keys.opens [] keys.files keys.names keys.own info.pid (inl refl)
 
   -- so is the asked lease
   asked_met : (name : LeaseName) → IsIn name (asked_names caller lease) → among (lease_place name) open_places ≡ true
@@ -230,7 +222,7 @@ module _ (setup : Setup) (n : ℕ) (k : Chains) (t : Table) (stands : StandsFor 
           let declared : LeaseName = record { guid = info.guid; key = ask.key } in
           let same : name ≡ declared = sym e ∙ (λ j. record { guid = guid j; key = ask.key }) in
           ap (λ m. among (lease_place m) open_places) same
-          ∙ name_met setup n k t stands.agree fine.sound fine.sets opens [] files names own declared (subst (λ l. IsIn (name_key declared) (asked_name info l)) (sym is) (inl refl))
+          ∙ name_met setup n k t stands.agree fine.sound fine.sets keys.opens [] keys.files keys.names keys.own declared (subst (λ l. IsIn (name_key declared) (asked_name info l)) (sym is) (inl refl))
 
   asked_name_met : IsMetName open_places (option_map (λ (ask : LeaseAsk). own_lease caller ask.key) lease)
   asked_name_met = by lease refl
@@ -240,8 +232,8 @@ module _ (setup : Setup) (n : ℕ) (k : Chains) (t : Table) (stands : StandsFor 
       by (Some ask) is = asked_met (own_lease caller ask.key) (subst (λ l. IsIn (own_lease caller ask.key) (asked_names caller l)) (sym is) (inl refl))
 
   spots_met : (spot : Spot) → IsIn spot (spots_of file) → AreWatchersMet setup open_places s here t spot
-  spots_met spot (inl e) y j = open_watcher_met setup n k t stands.agree fine.sound fine.sets opens [] files names own file (inl refl) y (subst (λ z. IsIn y ((view t).watches_on z)) (sym e) j)
-  spots_met spot (inr (inl e)) y j = range_watcher_met setup n k t stands.agree fine.sound fine.sets opens [] files names own file (inl refl) y (subst (λ z. IsIn y ((view t).watches_on z)) (sym e) j)
+  spots_met spot (inl e) y j = open_watcher_met setup n k t stands.agree fine.sound fine.sets keys.opens [] keys.files keys.names keys.own file (inl refl) y (subst (λ z. IsIn y ((view t).watches_on z)) (sym e) j)
+  spots_met spot (inr (inl e)) y j = range_watcher_met setup n k t stands.agree fine.sound fine.sets keys.opens [] keys.files keys.names keys.own file (inl refl) y (subst (λ z. IsIn y ((view t).watches_on z)) (sym e) j)
   spots_met spot (inr (inr e)) y j = absurd e
 
   -- ---- behind what expires
@@ -262,7 +254,7 @@ module _ (setup : Setup) (n : ℕ) (k : Chains) (t : Table) (stands : StandsFor 
     looked_met : (name : LeaseName) → IsIn name (carried_by ((view t).opens_of file)) ⊎ IsIn name (asked_names caller lease) → among (lease_place name) open_places ≡ true
     looked_met name (inl i) =
         let o = carried_in ((view t).opens_of file) name i in
-        subst (IsMetName open_places) o.2 (leases_met setup n k t stands.agree fine.sound fine.sets opens [] files names own file (inl refl) o.0 o.1)
+        subst (IsMetName open_places) o.2 (leases_met setup n k t stands.agree fine.sound fine.sets keys.opens [] keys.files keys.names keys.own file (inl refl) o.0 o.1)
     looked_met name (inr i) = asked_met name i
 
     row_met : (l : LeaseRow) → IsIn l rows → among (lease_place l.name) open_places ≡ true
@@ -309,8 +301,8 @@ module _ (setup : Setup) (n : ℕ) (k : Chains) (t : Table) (stands : StandsFor 
         let at = in_filter (is_of_file file) behind.opens x.0 x.1 in
         let i = passes_in (is_of_file file) t.opens x.0 (behind_fades.opens x.0 at.0) at.1 in
         subst (λ (y : FileOpen). IsMet y.row.owner) x.2 (
-          owner_mail setup n k t stands.agree fine.sound fine.sets opens [] files names own file (inl refl) x.0 i,
-          owner_register setup n k t stands.agree fine.sound fine.sets opens [] files names own file (inl refl) x.0 i,
+          owner_mail setup n k t stands.agree fine.sound fine.sets keys.opens [] keys.files keys.names keys.own file (inl refl) x.0 i,
+          owner_register setup n k t stands.agree fine.sound fine.sets keys.opens [] keys.files keys.names keys.own file (inl refl) x.0 i,
         )
 
     handles_are : AreBreaks here IsMet (handle_breaks f asked)

@@ -29,11 +29,11 @@ use Rattle.serial_table.specs.Step.{caller_of}
 use Rattle.serial_table.specs.History.{start, after, after_event, after_entry, IsLegal, numbers_of}
 use Rattle.serial_table.specs.Sound.{have_same_id}
 use Rattle.serial_table.proofs.Alike.{after_all-append}
-use Rattle.serial_table.proofs.Along.{Rises, rises_at, along_before, legal_before}
+use Rattle.serial_table.proofs.Along.{Rises, rises_at}
 use Rattle.serial_table.proofs.Callers.{is_caller_of}
 use Rattle.serial_table.proofs.Members.{IsIn, all_by, in_filter, one_in, some_same}
 use Rattle.serial_table.proofs.SameIds.{same_id-eq, same_id-refl, eqb-flip}
-use Rattle.serial_table.proofs.Soundness.{IsReached, expiries_reach, deaths_reach, start_reached}
+use Rattle.serial_table.proofs.Soundness.{IsReached, start_reached}
 use Rattle.chain_map.specs.declared.db.Db.TheVariants as db
 use Rattle.record_codec.specs.declared.open_rec.OpenRec.{OpenRec}
 use Rattle.record_codec.specs.OpenRec.{open_rec}
@@ -48,14 +48,12 @@ use Rattle.stored_table.specs.Move.{AddedOpen, added_for, added_by_caller, added
 use Rattle.stored_table.specs.Stands.{AddedHasSpelling, IsWellFormed}
 use Rattle.stored_table.proofs.Bridging.{decoded_spelled, new_by}
 use Rattle.stored_table.proofs.Keeping.{well_formed-move}
-use Rattle.stored_table.proofs.Spelling.{have_spellings, added_has_spelling}
 use Rattle.stored_table.proofs.Starting.{first_chains_stand}
 use Rattle.stored_table.proofs.Writing.{value_at-write_all}
 use Rattle.table_laws.specs.Standing.{NameTheirFiles}
 use Rattle.table_laws.proofs.Lists.{append_nothing}
-use Rattle.table_laws.proofs.Chains.{legal_is_fine}
 use Rattle.table_laws.proofs.FirstRecords.{no_open}
-use Rattle.table_laws.proofs.HistoryEvents.{grouped, legal_begin, carried, IsHigher, higher_calls}
+use Rattle.table_laws.proofs.HistoryEvents.{carried, next_step}
 use Rattle.table_laws.proofs.OwnOpens.{IsOldOrOwn, called_opens, concluded_opens, ending_passes}
 
 id_flip : (p q : OpenId) → same_id p q ≡ same_id q p
@@ -182,25 +180,17 @@ module _ (setup : Setup) (n : ℕ) (is : IsSetup setup) where
   files_step : (done : List Entry) (e : Entry) (rest : List Entry) (k : Chains) → IsLegal setup (done ++ e ∷ rest) → FilesNamed setup n done (e ∷ rest) k
       → FilesNamed setup n (done ++ e ∷ []) rest (move setup n k e (view (after setup (done ++ e ∷ []))))
   files_step done e rest k legal q =
-      let t = after setup done in
       let u = after setup (done ++ e ∷ []) in
-      let after_is : u ≡ after_entry setup t e = after_all-append setup (start setup) done e in
-      let next = along_before setup is (IsHigher setup n is q.low) (λ high t caller call p. (expiries_reach setup high t caller call p.0, p.1)) (higher_calls setup n is q.low)
-      (λ high t worker moment caller p timed of. (deaths_reach setup high t worker moment caller p.0 timed of, p.1)) q.low t (e ∷ []) rest (q.reached, λ pid. omega arith)
-      ((legal_before setup (start setup) done rest e legal.entries).1, tt) q.rises in
-      let reached : IsReached next.0 u = subst (IsReached next.0) (sym after_is) next.1.0 in
-      let fine = legal_is_fine setup (done ++ e ∷ []) is (legal_begin setup (done ++ e ∷ []) rest (subst (IsLegal setup) (sym (grouped done (e ∷ []) rest)) legal)) in
-      let spelled = have_spellings setup u is fine.sets fine.sound.rows fine.bounded in
-      let added_spelled = added_has_spelling setup u is fine.sets fine.sound.rows fine.bounded e in
+      let next = next_step setup n is q.low done e rest legal q.reached q.rises in
       let moved_from : (key : List ℕ) (r : OpenRec) → record_at open_rec n (move setup n k e (view u)) db.Opens key ≡ Some r → IsOldOrAdded (added setup (view u) e) (record_at open_rec n k db.Opens key) r =
-      λ key r is. moved_is setup n k e (view u) q.formed.chains added_spelled key r is in
+      λ key r is. moved_is setup n k e (view u) q.formed.chains next.added_spelled key r is in
       record {
-        low = next.0;
-        reached = reached;
-        rises = next.2;
-        formed = well_formed-move setup n k e (view u) q.formed spelled added_spelled;
-        known = λ key r is. now_known next.0 next.1.1 reached key r (moved_from key r is);
-        named = λ key r is o i same. now_named fine.sound.rows.ids_differ after_is key r (moved_from key r is) o i same;
+        low = next.high;
+        reached = next.reached;
+        rises = next.rises;
+        formed = well_formed-move setup n k e (view u) q.formed next.spelled next.added_spelled;
+        known = λ key r is. now_known next.high next.more next.reached key r (moved_from key r is);
+        named = λ key r is o i same. now_named next.fine.sound.rows.ids_differ (after_all-append setup (start setup) done e) key r (moved_from key r is) o i same;
       }
     where
       u : Table

@@ -42,11 +42,11 @@ use Rattle.serial_table.proofs.Members.{IsIn}
 use Rattle.serial_table.proofs.SameIds.{same_id-eq}
 use Rattle.serial_table.proofs.Settled.{files_settled}
 use Rattle.chain_map.specs.declared.db.Db.TheVariants as db
-use Rattle.stored_table.specs.Keys.{open_key, pid_key, file_key}
+use Rattle.stored_table.specs.Keys.{open_key, file_key}
 use Rattle.stored_table.specs.Places.{Chains, Place, place, among, value_at}
 use Rattle.stored_table.specs.Decoded.{AllRecords, records_of}
 use Rattle.stored_table.specs.Exact.{exact_lease}
-use Rattle.stored_table.specs.Met.{KeyList, met_by_open, asked_name, all_met}
+use Rattle.stored_table.specs.Met.{met_by_open, all_met}
 use Rattle.stored_table.specs.Move.{added_for, added_by_caller, id_by, added, new_open_record}
 use Rattle.stored_table.specs.Stands.{StandsFor}
 use Rattle.stored_table.proofs.Telling.{lives_alike}
@@ -60,6 +60,7 @@ use Rattle.table_laws.proofs.Chains.{IsFine}
 use Rattle.table_laws.proofs.ExpiredLeases.{behind_sound, expired_alike, shown_behind, lease_behind}
 use Rattle.table_laws.proofs.FilesAlike.{ComesAlike, file_alike, file_concluded}
 use Rattle.table_laws.proofs.FileWrites.{LeftOrAlike, lease_alike, file_left, new_alike, file_before, records_alike}
+use Rattle.table_laws.proofs.FirstKeys.{FirstKeys, keys_of_open}
 use Rattle.table_laws.proofs.Footprints.{own_register_same, lease_same}
 use Rattle.table_laws.proofs.NewKeys.{unread}
 use Rattle.table_laws.proofs.OpenAnswers.{due_alike, open_decided}
@@ -114,17 +115,8 @@ module _ (setup : Setup) (n by seq number : ℕ) (moment : Moment) (file : ℕ) 
     abbrev asked : Asked
     asked = asked_of caller file access share lease durable overwrite delete
 
-    abbrev opens : KeyList
-    opens = open_key info.pid number ∷ []
-
-    abbrev files : KeyList
-    files = file_key setup file ∷ []
-
-    abbrev names : KeyList
-    names = asked_name info lease
-
-    abbrev own : KeyList
-    own = pid_key info.pid ∷ []
+    abbrev keys : FirstKeys
+    keys = keys_of_open setup info number file lease
 
     abbrev here : ℕ → Bool
     here g = file == g
@@ -145,8 +137,8 @@ module _ (setup : Setup) (n by seq number : ℕ) (moment : Moment) (file : ℕ) 
     rows_alike =
         due_alike setup n by seq number moment file access share lease durable overwrite delete reply k j caller info guid same t u stands stands_other fine fine_other settled settled_other
 
-    files_behind : (g : ℕ) → IsIn (file_key setup g) files → file_view g (view (behind t)) ≡ file_view g (view (behind u))
-    files_behind g i = shown_behind setup caller which t u rows_alike g (file_before setup n k j t u stands stands_other fine fine_other opens [] files names own same g i)
+    files_behind : (g : ℕ) → IsIn (file_key setup g) keys.files → file_view g (view (behind t)) ≡ file_view g (view (behind u))
+    files_behind g i = shown_behind setup caller which t u rows_alike g (file_before setup n k j t u stands stands_other fine fine_other keys.opens [] keys.files keys.names keys.own same g i)
 
     -- ---- what it decides
 
@@ -158,7 +150,7 @@ module _ (setup : Setup) (n by seq number : ℕ) (moment : Moment) (file : ℕ) 
     owner_alike : (row : OpenRow) → is_own_open info.pid number file row ≡ true → lives (view (behind t)) row.owner ≡ lives (view (behind u)) row.owner
     owner_alike row e =
         let register : s.register row.owner.pid ≡ z.register row.owner.pid =
-        subst (λ p. s.register p ≡ z.register p) (sym (own_open info.pid number file row e).owner) (own_register_same setup n k j opens [] files names own same info.pid (inl refl)) in
+        subst (λ p. s.register p ≡ z.register p) (sym (own_open info.pid number file row e).owner) (own_register_same setup n k j keys.opens [] keys.files keys.names keys.own same info.pid (inl refl)) in
         ap (λ workers. lives_by workers row.owner) (expired_workers setup t caller which)
         ∙ sym (lives_alike setup s t stands.agree fine.sets fine.sound row.owner)
         ∙ lives_same s z row.owner register
@@ -202,7 +194,7 @@ module _ (setup : Setup) (n by seq number : ℕ) (moment : Moment) (file : ℕ) 
     end_other_is : perform_all (outcome setup (view t) caller which).changes u ≡ end_other
     end_other_is = ap (λ cs. perform_all cs u) changes_alike ∙ outcome_table setup u caller which ∙ ap (λ cs. perform_all cs (behind u)) (sym later_alike)
 
-    shown_end : (g : ℕ) → IsIn (file_key setup g) files → file_view g (view end) ≡ file_view g (view end_other)
+    shown_end : (g : ℕ) → IsIn (file_key setup g) keys.files → file_view g (view end) ≡ file_view g (view end_other)
     shown_end g i = file_alike here g (lives (view (behind t))) (lives (view (behind u))) later (behind t) (behind u) refl refl touched comes (files_behind g i)
 
     left_or_alike : (g : ℕ) → LeftOrAlike (behind t) (behind u) end end_other g
@@ -258,17 +250,14 @@ module _ (setup : Setup) (n by seq number : ℕ) (moment : Moment) (file : ℕ) 
       call_written setup n by seq number moment which reply (λ x t info session stands alive. inl refl) (λ x. refl) (λ k j t u caller info b.
       let e = call_entry by seq number moment which reply in
       let key = open_key info.pid number in
-      let opens = open_key info.pid number ∷ [] in
-      let files = file_key setup file ∷ [] in
-      let names = asked_name info lease in
-      let own = pid_key info.pid ∷ [] in
+      let keys = keys_of_open setup info number file lease in
       let cs = (outcome setup (view t) caller which).changes in
       let x = perform_all cs t in
       let y = perform_all cs u in
       let changes = changes_alike k j caller info b.pid b.guid b.number_is b.same t u b.stands b.stands_other b.fine b.fine_other b.settled b.settled_other b.unwatched b.unwatched_other in
       let x_is = end_is k j caller info b.pid b.guid b.number_is b.same t u b.stands b.stands_other b.fine b.fine_other b.settled b.settled_other b.unwatched b.unwatched_other in
       let y_is = end_other_is k j caller info b.pid b.guid b.number_is b.same t u b.stands b.stands_other b.fine b.fine_other b.settled b.settled_other b.unwatched b.unwatched_other in
-      let shown : (g : ℕ) → IsIn (file_key setup g) files → file_view g (view x) ≡ file_view g (view y) =
+      let shown : (g : ℕ) → IsIn (file_key setup g) keys.files → file_view g (view x) ≡ file_view g (view y) =
       λ g i. ap (λ (a : Table). file_view g (view a)) x_is
       ∙ shown_end k j caller info b.pid b.guid b.number_is b.same t u b.stands b.stands_other b.fine b.fine_other b.settled b.settled_other b.unwatched b.unwatched_other g i
       ∙ sym (ap (λ (a : Table). file_view g (view a)) y_is) in
@@ -278,10 +267,10 @@ module _ (setup : Setup) (n by seq number : ℕ) (moment : Moment) (file : ℕ) 
       ∙ sym (ap (λ (a : Table). (view a).opens_of_id (record { pid = info.pid; call = number })) y_is) in
       record {
         changes = changes;
-        exact = λ sound sound_other. records_alike setup n k j t u b.stands b.stands_other b.fine b.fine_other opens [] files names own b.same cs sound sound_other shown (λ name i.
+        exact = λ sound sound_other. records_alike setup n k j t u b.stands b.stands_other b.fine b.fine_other keys.opens [] keys.files keys.names keys.own b.same cs sound sound_other shown (λ name i.
             ap (λ (a : Table). exact_lease (view a) name) x_is
             ∙ lease_end k j caller info b.pid b.guid b.number_is b.same t u b.stands b.stands_other b.fine b.fine_other b.settled b.settled_other b.unwatched b.unwatched_other
-            (subst IsSound x_is sound) (subst IsSound y_is sound_other) name (lease_same setup n k j opens [] files names own b.same name i)
+            (subst IsSound x_is sound) (subst IsSound y_is sound_other) name (lease_same setup n k j keys.opens [] keys.files keys.names keys.own b.same name i)
             ∙ sym (ap (λ (a : Table). exact_lease (view a) name) y_is));
         opens = λ q i.
             subst (λ q. new_open_record (view x) (added setup (view x) e) (place db.Opens q) (value_at n k (place db.Opens q)) ≡ new_open_record (view y) (added setup (view y) e) (place db.Opens q) (value_at n j (place db.Opens q))) (only key q i)

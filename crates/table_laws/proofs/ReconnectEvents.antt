@@ -58,10 +58,10 @@ use Rattle.serial_table.proofs.Concluding.{perform_all-append}
 use Rattle.chain_map.specs.declared.db.Db.TheVariants as db
 use Rattle.record_codec.specs.declared.open_rec.OpenRec.{OpenRec}
 use Rattle.record_codec.specs.OpenRec.{open_rec}
-use Rattle.stored_table.specs.Keys.{open_key, pid_key, name_key, file_key}
+use Rattle.stored_table.specs.Keys.{open_key, file_key}
 use Rattle.stored_table.specs.Places.{Chains, Place, place, among}
 use Rattle.stored_table.specs.Decoded.{AllRecords, records_of}
-use Rattle.stored_table.specs.Met.{KeyList, met_by_call, met_by_reconnect, all_met, named_at, file_of, nothing_met, record_at}
+use Rattle.stored_table.specs.Met.{met_by_call, met_by_reconnect, all_met, file_of, nothing_met, record_at}
 use Rattle.stored_table.specs.Move.{added, added_for, move, places_written, added_by_caller}
 use Rattle.stored_table.specs.Moved.{moved}
 use Rattle.stored_table.specs.Stands.{HasOpenRecords, StandsFor}
@@ -69,6 +69,7 @@ use Rattle.stored_table.proofs.Telling.{not_declared}
 use Rattle.table_laws.specs.Standing.{KeepsStanding}
 use Rattle.table_laws.proofs.Contained.{share_place, ranges_place, IsMetName, Contained}
 use Rattle.table_laws.proofs.Exactly.{in_opens}
+use Rattle.table_laws.proofs.FirstKeys.{FirstKeys, keys_of_reconnect}
 use Rattle.table_laws.proofs.Meets.{flat_mapped_in, is_among, files_written, leases_met}
 use Rattle.table_laws.proofs.Touching.{touches, reaches, Along, along, same_waits, same_then, waits_refl, same_refl}
 use Rattle.table_laws.proofs.Deciding.{IsContained, none_new, adds_no_waiter, reply_contained}
@@ -201,17 +202,8 @@ module _ (setup : Setup) (n : ℕ) (is : IsSetup setup) (before : List Entry) (b
     abbrev ps : List Place
     ps = all_met (met_by_reconnect setup n k info number made key named)
 
-    abbrev opens : KeyList
-    opens = open_key named.pid made ∷ open_key info.pid number ∷ []
-
-    abbrev files : KeyList
-    files = named_at open_rec (file_of setup) n k db.Opens (open_key named.pid made ∷ [])
-
-    abbrev names : KeyList
-    names = name_key (record { guid = info.guid; key = key }) ∷ []
-
-    abbrev workers : KeyList
-    workers = pid_key info.pid ∷ []
+    abbrev keys : FirstKeys
+    keys = keys_of_reconnect setup n k info number made key named
 
     -- the file of the open that the named call made
     abbrev here : ℕ → Bool
@@ -229,20 +221,20 @@ module _ (setup : Setup) (n : ℕ) (is : IsSetup setup) (before : List Entry) (b
         let same : o.id ≡ id = same_id-eq o.id id at.1 in
         sym (λ j. s.opens (same j).pid (same j).call) ∙ (all_of (HasOpenRecords s) (v.opens_of o.file) (stands.agree.opens o.file) o (in_opens t fine.sound o at.0)).by_id
 
-    file_met : (o : OpenRow) → IsIn o (v.opens_of_id id) → IsIn (file_key setup o.file) files
+    file_met : (o : OpenRow) → IsIn o (v.opens_of_id id) → IsIn (file_key setup o.file) keys.files
     file_met o i =
         flat_mapped_in (λ key. option_map_or (file_of setup) (record_at open_rec n k db.Opens key) []) (open_key named.pid made ∷ []) (open_key named.pid made) (file_key setup o.file) (inl refl)
         (subst (λ x. IsIn (file_key setup o.file) (option_map_or (file_of setup) x [])) (sym (recorded o i)) (inl refl))
 
-    here_met : (file : ℕ) → here file ≡ true → IsIn (file_key setup file) files
+    here_met : (file : ℕ) → here file ≡ true → IsIn (file_key setup file) keys.files
     here_met file e =
-        let o = one_of (λ x. x.file == file) (v.opens_of_id id) e in subst (λ f. IsIn (file_key setup f) files) (eqb-true o.0.file file o.2) (file_met o.0 o.1)
+        let o = one_of (λ x. x.file == file) (v.opens_of_id id) e in subst (λ f. IsIn (file_key setup f) keys.files) (eqb-true o.0.file file o.2) (file_met o.0 o.1)
 
     written : (file : ℕ) → here file ≡ true → (among (share_place setup file) ps ≡ true) × (among (ranges_place setup file) ps ≡ true)
-    written file e = files_written setup n k t stands.agree fine.sound fine.sets opens [] files names workers file (here_met file e)
+    written file e = files_written setup n k t stands.agree fine.sound fine.sets keys.opens [] keys.files keys.names keys.own file (here_met file e)
 
     met_names : (o : OpenRow) → IsIn o t.opens → here o.file ≡ true → IsMetName ps o.lease
-    met_names o i e = leases_met setup n k t stands.agree fine.sound fine.sets opens [] files names workers o.file (here_met o.file e) o (in_opens t fine.sound o i)
+    met_names o i e = leases_met setup n k t stands.agree fine.sound fine.sets keys.opens [] keys.files keys.names keys.own o.file (here_met o.file e) o (in_opens t fine.sound o i)
 
     -- the leases that the call looks at are of the open's file
     looked_by : (os : List OpenRow) → ((o : OpenRow) → IsIn o os → IsIn o (v.opens_of_id id)) → (l : LeaseRow) → IsIn l (due v caller.moment (names_beside v os)) → here l.file ≡ true

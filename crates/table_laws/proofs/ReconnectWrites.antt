@@ -1,375 +1,41 @@
 -- What `reconnect` writes goes by the chains of its footprint alone.
-use Rattle.std.proofs.Common.{◌≡◌, ℕ, suc, Bool, true, false, cond, ◌==◌, List, [], ◌∷◌, ◌++◌, map, filter, Option, Some, None, refl, sym, ap, ◌∙◌, subst, inl, inr, arith}
-use Rattle.std.specs.List.{AllByRecursion, list_all, list_any}
+use Rattle.std.proofs.Common.{◌≡◌, ℕ, true, [], ◌∷◌, ◌++◌, Option, Some, None, refl, sym, ap, ◌∙◌, subst, inl}
+use Rattle.std.specs.List.{AllByRecursion}
 use Rattle.std.specs.Option.{option_map_or, option_and_then}
-use Rattle.std.proofs.lemmas.Bool.{and_parts, and_from, cond-false, eqb-true, false_from_ne_true}
-use Rattle.std.proofs.lemmas.List.Folds.{list_all-append}
-use Rattle.sid_core.specs.declared.bits.LeaseState.{LeaseState}
 use Rattle.sid_core.specs.declared.call.Call.{Call}
 use Rattle.sid_core.specs.declared.call.Call.TheVariants as call
-use Rattle.sid_core.specs.declared.ids.LeaseName.{LeaseName}
 use Rattle.sid_core.specs.declared.ids.Moment.{Moment}
-use Rattle.sid_core.specs.declared.ids.OpenId.{OpenId}
-use Rattle.sid_core.specs.declared.ids.Sid.{Sid}
-use Rattle.sid_core.specs.declared.ids.Spot.{Spot}
 use Rattle.sid_core.specs.declared.reply.Reply.{Reply}
-use Rattle.sid_core.specs.declared.reply.Reply.TheVariants.{Granted, ObjectNameNotFound}
+use Rattle.sid_core.specs.declared.reply.Reply.TheVariants.{Granted}
 use Rattle.sid_core.specs.declared.setup.Setup.{Setup}
 use Rattle.sid_core.specs.declared.setup.WorkerInfo.{WorkerInfo}
-use Rattle.sid_core.specs.Ids.{same_id, same_sid}
 use Rattle.serial_table.specs.ByNumber.{declared_at}
-use Rattle.serial_table.specs.declared.rows.OpenRow.{OpenRow}
 use Rattle.serial_table.specs.declared.table.Table.{Table}
-use Rattle.serial_table.specs.declared.change.Change.{Change}
-use Rattle.serial_table.specs.declared.change.Change.TheVariants as c
-use Rattle.serial_table.specs.declared.decision.Caller.{Caller}
-use Rattle.serial_table.specs.declared.decision.Decision.{Decision}
-use Rattle.serial_table.specs.Asked.{own_lease}
-use Rattle.serial_table.specs.View.{View, view, lives, has_id, is_of_file, is_of_handle}
-use Rattle.serial_table.specs.File.{FileOpen, file_view, file_open}
-use Rattle.serial_table.specs.Change.{is_open, new_owner, perform_all}
+use Rattle.serial_table.specs.View.{View, view}
+use Rattle.serial_table.specs.File.{file_view}
+use Rattle.serial_table.specs.Change.{perform_all}
 use Rattle.serial_table.specs.Decide.{outcome}
-use Rattle.serial_table.specs.Decision.{only_reply, conclude}
-use Rattle.serial_table.specs.Expire.{names_beside, look, due, expired_by}
 use Rattle.serial_table.specs.History.{start, after}
-use Rattle.serial_table.specs.Reconnect.{reconnect}
-use Rattle.serial_table.specs.Settle.{settle_file, settle}
 use Rattle.serial_table.specs.Sound.{IsSound}
 use Rattle.serial_table.proofs.Along.{legal_before}
-use Rattle.serial_table.proofs.Concluding.{conclude_all}
-use Rattle.serial_table.proofs.Expiring.{expired_all, expired_settled, lives_behind, outcome_table}
-use Rattle.serial_table.proofs.Filters.{filter-map}
-use Rattle.serial_table.proofs.Members.{IsIn, all_of, any_none, in_filter, passes_in}
-use Rattle.serial_table.proofs.Names.{same_sid-eq}
-use Rattle.serial_table.proofs.SameIds.{same_id-eq}
-use Rattle.serial_table.proofs.Settled.{IsSettled, files_settled}
-use Rattle.serial_table.proofs.Views.{file-new_owner}
+use Rattle.serial_table.proofs.Members.{IsIn}
 use Rattle.chain_map.specs.declared.db.Db.TheVariants as db
-use Rattle.record_codec.specs.declared.open_rec.OpenRec.{OpenRec}
-use Rattle.record_codec.specs.OpenRec.{open_rec}
-use Rattle.stored_table.specs.Keys.{open_key, pid_key, name_key, file_key}
+use Rattle.stored_table.specs.Keys.{open_key, pid_key, file_key}
 use Rattle.stored_table.specs.Places.{Chains, Place, place, among, chain_at, value_at}
-use Rattle.stored_table.specs.Decoded.{AllRecords, records_of}
 use Rattle.stored_table.specs.Exact.{exact_lease}
 use Rattle.stored_table.specs.Footprint.{footprint}
 use Rattle.stored_table.specs.Histories.{moved_by}
-use Rattle.stored_table.specs.Met.{KeyList, Met, met_by_call, met_by_reconnect, all_met, named_at, file_of, nothing_met, record_at}
+use Rattle.stored_table.specs.Met.{Met, met_by_call, met_by_reconnect, all_met, nothing_met}
 use Rattle.stored_table.specs.Move.{added_for, added_by_caller, added, still_open, new_open_record, move}
-use Rattle.stored_table.specs.Stands.{HasOpenRecords, StandsFor}
-use Rattle.stored_table.proofs.Telling.{none_in, not_declared}
+use Rattle.stored_table.proofs.Telling.{not_declared}
 use Rattle.table_laws.specs.ByFootprint.{IsWrittenByFootprint}
-use Rattle.table_laws.specs.Standing.{NameTheirFiles, call_entry}
+use Rattle.table_laws.specs.Standing.{call_entry}
 use Rattle.table_laws.proofs.AddedOpens.{IsNewNumber}
-use Rattle.table_laws.proofs.Calls.{changes_are}
 use Rattle.table_laws.proofs.CallWrites.{WritesAlike, call_written}
-use Rattle.table_laws.proofs.Chains.{IsFine, adds_no_open, all_still_in}
-use Rattle.table_laws.proofs.Contained.{SameFile}
-use Rattle.table_laws.proofs.Exactly.{in_opens}
-use Rattle.table_laws.proofs.ExpiredLeases.{all, behind_sound, expired_alike, shown_behind, lease_behind}
-use Rattle.table_laws.proofs.FilesAlike.{file_alike}
-use Rattle.table_laws.proofs.FileWrites.{LeftOrAlike, lease_alike, new_alike, of_named_file, file_before, open_alike, records_alike}
+use Rattle.table_laws.proofs.FileWrites.{new_alike, records_alike}
+use Rattle.table_laws.proofs.FirstKeys.{keys_of_reconnect}
 use Rattle.table_laws.proofs.Footprints.{lease_same}
-use Rattle.table_laws.proofs.Keywise.{woken_alike, concluded_alike}
-use Rattle.table_laws.proofs.Meets.{flat_mapped_in}
-use Rattle.table_laws.proofs.NewKeys.{unread}
-use Rattle.table_laws.proofs.OwnOpens.{adds_own, IsOldOrOwn, old_or_own}
-use Rattle.table_laws.proofs.ReconnectAnswers.{file_by_id, none_by_id, looks, open_same, reconnect_is, reconnected_same}
-use Rattle.table_laws.proofs.ReconnectEvents.{taken, same_opens, same_view, Decided, decided}
-use Rattle.table_laws.proofs.SameFiles.{AreOfFile, rows_same, due_same}
-use Rattle.table_laws.proofs.Showing.{SameLease}
-use Rattle.table_laws.proofs.Touching.{touches, file_stays, same_then}
-
--- ---- an open that is taken over, at two tables
-
-module _ (file : ℕ) (id : OpenId) (owner : Sid) (handle : ℕ) where
-  -- what an open that a file shows becomes, where the new owner lives or doesn't
-  abbrev turned : Bool → FileOpen → FileOpen
-  turned alive o = cond (is_open file id o.row) (let x : FileOpen = record { row = record o.row { owner = owner; handle = handle }; connected = alive } in x) o
-
-  turned_one : (alive : Sid → Bool) (o : OpenRow) → file_open alive (new_owner file id owner handle o) ≡ turned (alive owner) (file_open alive o)
-  unfolding new_owner
-  turned_one alive o = by (is_open file id o)
-    where
-      by : (b : Bool) → file_open alive (cond b (record o { owner = owner; handle = handle }) o) ≡ cond b (let x : FileOpen = record { row = record o { owner = owner; handle = handle }; connected = alive owner } in x) (file_open alive o)
-      by true = refl
-      by false = refl
-
-  turned_all : (alive : Sid → Bool) (os : List OpenRow) → map (file_open alive) (map (new_owner file id owner handle) os) ≡ map (turned (alive owner)) (map (file_open alive) os)
-  turned_all alive [] = refl
-  turned_all alive (o ∷ os) = λ i. turned_one alive o i ∷ turned_all alive os i
-
-  taken_view : (x : Table) (g : ℕ) → file_view g (view (taken x file id owner handle)) ≡ record (file_view g (view x)) { opens = map (turned (lives (view x) owner)) (file_view g (view x)).opens }
-  taken_view x g =
-      let opens =
-      ap (map (file_open (lives (view x)))) (filter-map (is_of_file g) (new_owner file id owner handle) (λ o. ap (λ f. f == g) (file-new_owner file id owner handle o)) x.opens)
-      ∙ turned_all (lives (view x)) ((view x).opens_of g) in
-      λ i. record (file_view g (view x)) { opens = opens i }
-
-  taken_alike : (x y : Table) (g : ℕ) → file_view g (view x) ≡ file_view g (view y) → lives (view x) owner ≡ lives (view y) owner → file_view g (view (taken x file id owner handle)) ≡ file_view g (view (taken y file id owner handle))
-  taken_alike x y g same alive = taken_view x g ∙ (λ i. record (same i) { opens = map (turned (alive i)) (same i).opens }) ∙ sym (taken_view y g)
-
-  -- another file is left alone
-  taken_left : (x : Table) (g : ℕ) → (file == g) ≡ false → IsSettled x g → SameFile g (view x) (view (settle (taken x file id owner handle)))
-  taken_left x g out settled =
-      let y = taken x file id owner handle in
-      let same = same_view x file id owner handle g out in
-      same_then g x y (settle y) (record { opens = same_opens x file id owner handle g out; ranges = refl; pending = refl; leases = λ name. refl })
-      (file_stays (λ f. file == f) g out c.Settle y refl (ap settle_file same ∙ settled ∙ sym same))
-
--- ---- opens behind changes that add none
-
-adds_others : (own : OpenId) (cs : List Change) → list_all adds_no_open cs ≡ true → list_all (adds_own own) cs ≡ true
-adds_others own [] e = refl
-adds_others own (change ∷ cs) e = let p = and_parts (adds_no_open change) (list_all adds_no_open cs) e in and_from (adds_own own change) (list_all (adds_own own) cs) (one change p.0) (adds_others own cs p.1)
-  where
-    one : (change : Change) → adds_no_open change ≡ true → adds_own own change ≡ true
-    one (c.AddOpen row) e = absurd cc
-    one _ e = refl
-
--- it was there before, under its id and of its file
-opens_before : (cs : List Change) (t : Table) (o : OpenRow) → list_all adds_no_open cs ≡ true → IsIn o (perform_all cs t).opens → (x : OpenRow) × IsIn x t.opens × (x.id ≡ o.id) × (x.file ≡ o.file)
-opens_before cs t o e i = by (old_or_own other cs t o (adds_others other cs e) i)
-  where
-    other : OpenId
-    other = record { pid = o.id.pid; call = suc o.id.call }
-
-    by : IsOldOrOwn (record { pid = o.id.pid; call = suc o.id.call }) t o → (x : OpenRow) × IsIn x t.opens × (x.id ≡ o.id) × (x.file ≡ o.file)
-    by (inl k) = k
-    by (inr h) = let same : o.id.call ≡ suc o.id.call = ap (λ (id : OpenId). id.call) (same_id-eq o.id other h) in absurd (omega (arith, same))
-
--- ---- the call, at two tables
-
-module _ (setup : Setup) (n : ℕ) (k j : Chains) (t u : Table) (stands : StandsFor setup n k (view t)) (stands_other : StandsFor setup n j (view u)) (fine : IsFine setup t) (fine_other : IsFine setup u)
-    (caller : Caller) (info named : WorkerInfo) (number worker made key : ℕ) (declared : declared_at setup.workers worker ≡ Some named)
-    (same : (p : Place) → among p (all_met (met_by_reconnect setup n k info number made key named)) ≡ true → value_at n k p ≡ value_at n j p) (settled : settle t ≡ t) (settled_other : settle u ≡ u) where
-  abbrev s : AllRecords
-  s = records_of setup n k
-
-  abbrev z : AllRecords
-  z = records_of setup n j
-
-  abbrev which : Call
-  which = call.Reconnect worker made key
-
-  abbrev id : OpenId
-  id = record { pid = named.pid; call = made }
-
-  abbrev opens : KeyList
-  opens = open_key named.pid made ∷ open_key info.pid number ∷ []
-
-  abbrev files : KeyList
-  files = named_at open_rec (file_of setup) n k db.Opens (open_key named.pid made ∷ [])
-
-  abbrev names : KeyList
-  names = name_key (record { guid = info.guid; key = key }) ∷ []
-
-  abbrev own : KeyList
-  own = pid_key info.pid ∷ []
-
-  abbrev behind : Table → Table
-  behind x = perform_all (expired_by setup (view x) caller (call.Reconnect worker made key)) x
-
-  abbrev decision : Table → Decision
-  decision x = reconnect setup (view (behind x)) caller worker made key
-
-  abbrev end : Table → Table
-  end x = perform_all (outcome setup (view x) caller (call.Reconnect worker made key)).changes x
-
-  looks_at : (x : Table) → look setup (view x) caller which ≡ names_beside (view x) (filter (has_id id) x.opens)
-  looks_at = looks setup n k j t u stands stands_other fine fine_other caller info named number worker made key declared same
-
-  same_open : s.opens named.pid made ≡ z.opens named.pid made
-  same_open = open_same setup n k j t u stands stands_other fine fine_other caller info named number worker made key declared same
-
-  decided_same : reconnect setup (view (behind t)) caller worker made key ≡ reconnect setup (view (behind u)) caller worker made key
-  decided_same = reconnected_same setup n k j t u stands stands_other fine fine_other caller info named number worker made key declared same
-
-  -- the file of the named open is met
-  met_file : (r : OpenRec) → s.opens named.pid made ≡ Some r → IsIn (file_key setup r.file) files
-  met_file r is =
-      flat_mapped_in (λ key. option_map_or (file_of setup) (record_at open_rec n k db.Opens key) []) (open_key named.pid made ∷ []) (open_key named.pid made) (file_key setup r.file) (inl refl)
-      (subst (λ o. IsIn (file_key setup r.file) (option_map_or (file_of setup) o [])) (sym is) (inl refl))
-
-  -- ---- what expires before it
-
-  none_due : (x : Table) → filter (has_id id) x.opens ≡ [] → due (view x) caller.moment (look setup (view x) caller which) ≡ []
-  none_due x none = ap (λ names. due (view x) caller.moment names) (looks_at x ∙ ap (names_beside (view x)) none)
-
-  due_alike : due (view t) caller.moment (look setup (view t) caller which) ≡ due (view u) caller.moment (look setup (view u) caller which)
-  due_alike = by (s.opens named.pid made) refl
-    where
-      by : (o : Option OpenRec) → s.opens named.pid made ≡ o → due (view t) caller.moment (look setup (view t) caller which) ≡ due (view u) caller.moment (look setup (view u) caller which)
-      by None is = none_due t (none_by_id setup s t stands.agree fine.sound id is) ∙ sym (none_due u (none_by_id setup z u stands_other.agree fine_other.sound id (sym same_open ∙ is)))
-      by (Some r) is =
-          due_same setup caller (has_id id) r.file which looks_at t u fine.sound fine_other.sound (file_by_id setup s t stands.agree fine.sound id r is) (file_by_id setup z u stands_other.agree fine_other.sound id r (sym same_open ∙ is))
-          (file_before setup n k j t u stands stands_other fine fine_other opens [] files names own same r.file (met_file r is))
-
-  files_behind : (file : ℕ) → IsIn (file_key setup file) files → file_view file (view (behind t)) ≡ file_view file (view (behind u))
-  files_behind file i = shown_behind setup caller which t u due_alike file (file_before setup n k j t u stands stands_other fine fine_other opens [] files names own same file i)
-
-  open_was : (x : Table) (o : OpenRow) → IsIn o (behind x).opens → IsIn o x.opens
-  open_was x o i = all_still_in all (expired_by setup (view x) caller which) x o (expired_all adds_no_open (λ l. refl) refl setup (view x) caller which) (expired_all (touches all) (λ l. refl) refl setup (view x) caller which) i
-
-  -- ---- what it decides
-
-  decides : (x : Table) → Decided caller (filter (has_id id) (behind x).opens) (decision x)
-  decides x =
-      subst (Decided caller (filter (has_id id) (behind x).opens)) (sym (reconnect_is setup n k j t u stands stands_other fine fine_other caller info named number worker made key declared same (behind x)))
-      (decided (view (behind x)) caller (own_lease caller key) (filter (has_id id) (behind x).opens))
-
-  -- of each thing that both decisions have
-  either : (P : Decision → Type 0) → P (only_reply ObjectNameNotFound) → ((row : OpenRow) (held : LeaseState) → P (record (only_reply (Granted (Some held) true)) { changes = c.TakeOver row.file row.id caller.sid caller.number ∷ [] })) → (x : Table) → P (decision x)
-  either P refused takes x = by (decides x)
-    where
-      by : Decided caller (filter (has_id id) (behind x).opens) (decision x) → P (decision x)
-      by (inl e) = subst P (sym e) refused
-      by (inr h) = subst P (sym h.is) (takes h.row h.held)
-
-  no_spots : (x : Table) → (decision x).spots ≡ []
-  no_spots = either (λ d. d.spots ≡ []) refl (λ row held. refl)
-
-  changes_alike : (outcome setup (view t) caller which).changes ≡ (outcome setup (view u) caller which).changes
-  changes_alike =
-      let none : (spot : Spot) → IsIn spot (decision t).spots → ⊥ = λ spot i. subst (IsIn spot) (no_spots t) i in
-      let later : (conclude (view (behind t)) (decision t)).changes ≡ (conclude (view (behind u)) (decision u)).changes =
-      concluded_alike (view (behind t)) (view (behind u)) (decision t) (woken_alike (view (behind t)) (view (behind u)) (decision t) (λ spot i. absurd (none spot i)) (λ spot i. absurd (none spot i)))
-      ∙ ap (λ d. (conclude (view (behind u)) d).changes) decided_same in
-      changes_are setup t caller which ∙ (λ i. expired_alike setup caller which t u due_alike i ++ later i) ∙ sym (changes_are setup u caller which)
-
-  adds_none : (x : Table) → list_all adds_no_open (outcome setup (view x) caller which).changes ≡ true
-  adds_none x =
-      ap (list_all adds_no_open) (changes_are setup x caller which)
-      ∙ list_all-append adds_no_open (expired_by setup (view x) caller which) (conclude (view (behind x)) (decision x)).changes
-      ∙ and_from (list_all adds_no_open (expired_by setup (view x) caller which)) _ (expired_all adds_no_open (λ l. refl) refl setup (view x) caller which)
-      (conclude_all adds_no_open (record { comes = λ w. refl; goes = λ sid call. refl; sent = λ post. refl }) refl (view (behind x)) (decision x) (either (λ d. list_all adds_no_open d.changes ≡ true) refl (λ row held. refl) x))
-
-  from_before : (x : Table) (o : OpenRow) → IsIn o (end x).opens → (y : OpenRow) × IsIn y x.opens × (y.id ≡ o.id) × (y.file ≡ o.file)
-  from_before x o i = opens_before (outcome setup (view x) caller which).changes x o (adds_none x) i
-
-  of_file_then : (x : Table) (i : OpenId) (file : ℕ) → AreOfFile (has_id i) file x → AreOfFile (has_id i) file (end x)
-  of_file_then x i file of o at e = let y = from_before x o at in sym y.3 ∙ of y.0 y.1 (ap (λ (x : OpenId). same_id x i) y.2 ∙ e)
-
-  -- ---- where it finds none
-
-  refused_end : (x : Table) → settle x ≡ x → decision x ≡ only_reply ObjectNameNotFound → end x ≡ behind x
-  unfolding conclude
-  refused_end x e is =
-      outcome_table setup x caller which
-      ∙ ap (λ (d : Decision). perform_all (conclude (view (behind x)) d).changes (behind x)) is
-      ∙ expired_settled setup x caller which e
-
-  -- ---- where it takes an open over
-
-  module _ (new : IsNewNumber caller.sid.pid caller.number t) (new_other : IsNewNumber caller.sid.pid caller.number u) (alive : lives (view t) caller.sid ≡ true) (alive_other : lives (view u) caller.sid ≡ true) where
-    -- its handle is new
-    free : (x : Table) → IsNewNumber caller.sid.pid caller.number x → list_any (is_of_handle caller.sid caller.number) (behind x).opens ≡ false
-    free x h =
-        any_none (is_of_handle caller.sid caller.number) (behind x).opens (λ o i. false_from_ne_true (is_of_handle caller.sid caller.number o) (λ e.
-        let p = and_parts (same_sid o.owner caller.sid) (o.handle == caller.number) e in
-        h.handles o (open_was x o i) (ap (λ (sid : Sid). sid.pid) (same_sid-eq o.owner caller.sid p.0)) (eqb-true o.handle caller.number p.1)))
-
-    module _ (row : OpenRow) (held : LeaseState) where
-      abbrev over : Table → Table
-      over x = taken (behind x) row.file row.id caller.sid caller.number
-
-      abbrev Takes : Decision → Type 0
-      Takes d = d ≡ record (only_reply (Granted (Some held) true)) { changes = c.TakeOver row.file row.id caller.sid caller.number ∷ [] }
-
-      taken_end : (x : Table) → IsNewNumber caller.sid.pid caller.number x → Takes (decision x) → end x ≡ settle (over x)
-      unfolding conclude
-      taken_end x h is =
-          outcome_table setup x caller which
-          ∙ ap (λ (d : Decision). perform_all (conclude (view (behind x)) d).changes (behind x)) is
-          ∙ ap settle (cond-false (list_any (is_of_handle caller.sid caller.number) (behind x).opens) (behind x) (over x) (free x h))
-
-      shown_taken : (file : ℕ) → IsIn (file_key setup file) files → file_view file (view (settle (over t))) ≡ file_view file (view (settle (over u)))
-      shown_taken file i =
-          let lives_both = lives_behind setup t caller which alive ∙ sym (lives_behind setup u caller which alive_other) in
-          file_alike all file (lives (view (over t))) (lives (view (over u))) (c.Settle ∷ []) (over t) (over u) refl refl refl (tt, tt)
-          (taken_alike row.file row.id caller.sid caller.number (behind t) (behind u) file (files_behind file i) lives_both)
-
-      module _ (is_met : IsIn (file_key setup row.file) files) (sound : IsSound (settle (over t))) (sound_other : IsSound (settle (over u))) where
-        left_or_alike : (g : ℕ) → LeftOrAlike (behind t) (behind u) (settle (over t)) (settle (over u)) g
-        left_or_alike g = by (row.file == g) refl
-          where
-            by : (b : Bool) → (row.file == g) ≡ b → LeftOrAlike (behind t) (behind u) (settle (over t)) (settle (over u)) g
-            by true e = inl (shown_taken g (subst (λ f. IsIn (file_key setup f) files) (eqb-true row.file g e) is_met))
-            by false e = inr (
-              taken_left row.file row.id caller.sid caller.number (behind t) g e (files_settled (behind t) (expired_settled setup t caller which settled) g),
-              taken_left row.file row.id caller.sid caller.number (behind u) g e (files_settled (behind u) (expired_settled setup u caller which settled_other) g),
-            )
-
-        lease_taken : (name : LeaseName) → SameLease s z name → exact_lease (view (settle (over t))) name ≡ exact_lease (view (settle (over u))) name
-        lease_taken name lease =
-            lease_alike (behind t) (behind u) (settle (over t)) (settle (over u)) (behind_sound setup caller which t fine settled) (behind_sound setup caller which u fine_other settled_other) sound sound_other left_or_alike name
-            (lease_behind setup s z t u stands.agree stands_other.agree fine fine_other name lease caller which settled settled_other due_alike)
-
-    -- its open is of a met file
-    row_met : (row : OpenRow) → IsIn row (filter (has_id id) (behind t).opens) → IsIn (file_key setup row.file) files
-    row_met row i =
-        let at = in_filter (has_id id) (behind t).opens row i in
-        let by_id = (all_of (HasOpenRecords s) ((view t).opens_of row.file) (stands.agree.opens row.file) row (in_opens t fine.sound row (open_was t row at.0))).by_id in
-        met_file (record { id = row.id; file = row.file }) (sym (ap (λ (x : OpenId). s.opens x.pid x.call) (same_id-eq row.id id at.1)) ∙ by_id)
-
-    -- ---- the tables after it
-
-    shown_end : (file : ℕ) → IsIn (file_key setup file) files → file_view file (view (end t)) ≡ file_view file (view (end u))
-    shown_end file i = by (decides t)
-      where
-        by : Decided caller (filter (has_id id) (behind t).opens) (decision t) → file_view file (view (end t)) ≡ file_view file (view (end u))
-        by (inl e) =
-            ap (λ (x : Table). file_view file (view x)) (refused_end t settled e) ∙ files_behind file i ∙ sym (ap (λ (x : Table). file_view file (view x)) (refused_end u settled_other (sym decided_same ∙ e)))
-        by (inr h) =
-            ap (λ (x : Table). file_view file (view x)) (taken_end h.row h.held t new h.is)
-            ∙ shown_taken h.row h.held file i
-            ∙ sym (ap (λ (x : Table). file_view file (view x)) (taken_end h.row h.held u new_other (sym decided_same ∙ h.is)))
-
-    lease_end : IsSound (end t) → IsSound (end u) → (name : LeaseName) → SameLease s z name → exact_lease (view (end t)) name ≡ exact_lease (view (end u)) name
-    lease_end sound sound_other name lease = by (decides t)
-      where
-        by : Decided caller (filter (has_id id) (behind t).opens) (decision t) → exact_lease (view (end t)) name ≡ exact_lease (view (end u)) name
-        by (inl e) =
-            ap (λ (x : Table). exact_lease (view x) name) (refused_end t settled e)
-            ∙ lease_behind setup s z t u stands.agree stands_other.agree fine fine_other name lease caller which settled settled_other due_alike
-            ∙ sym (ap (λ (x : Table). exact_lease (view x) name) (refused_end u settled_other (sym decided_same ∙ e)))
-        by (inr h) =
-            let a = taken_end h.row h.held t new h.is in
-            let b = taken_end h.row h.held u new_other (sym decided_same ∙ h.is) in
-            ap (λ (x : Table). exact_lease (view x) name) a
-            ∙ lease_taken h.row h.held (row_met h.row h.there) (subst IsSound a sound) (subst IsSound b sound_other) name lease
-            ∙ sym (ap (λ (x : Table). exact_lease (view x) name) b)
-
-    none_end : (x : Table) → filter (has_id id) x.opens ≡ [] → filter (has_id id) (end x).opens ≡ []
-    none_end x none =
-        none_in (filter (has_id id) (end x).opens) (λ o i.
-        let at = in_filter (has_id id) (end x).opens o i in
-        let y = from_before x o at.0 in
-        subst (IsIn y.0) none (passes_in (has_id id) x.opens y.0 y.1 (ap (λ (x : OpenId). same_id x id) y.2 ∙ at.1)))
-
-    ids_end : (view (end t)).opens_of_id id ≡ (view (end u)).opens_of_id id
-    ids_end = by (s.opens named.pid made) refl
-      where
-        by : (o : Option OpenRec) → s.opens named.pid made ≡ o → (view (end t)).opens_of_id id ≡ (view (end u)).opens_of_id id
-        by None is = none_end t (none_by_id setup s t stands.agree fine.sound id is) ∙ sym (none_end u (none_by_id setup z u stands_other.agree fine_other.sound id (sym same_open ∙ is)))
-        by (Some r) is =
-            rows_same (has_id id) r.file (end t) (end u) (of_file_then t id r.file (file_by_id setup s t stands.agree fine.sound id r is))
-            (of_file_then u id r.file (file_by_id setup z u stands_other.agree fine_other.sound id r (sym same_open ∙ is))) (shown_end r.file (met_file r is))
-
-    -- ---- open records
-
-    still_end : NameTheirFiles n k (view t) → NameTheirFiles n j (view u) → record_at open_rec n k db.Opens (open_key info.pid number) ≡ None → record_at open_rec n j db.Opens (open_key info.pid number) ≡ None
-        → (x : List ℕ) → IsIn x opens → still_open (view (end t)) (value_at n k (place db.Opens x)) ≡ still_open (view (end u)) (value_at n j (place db.Opens x))
-    still_end names_t names_u none none_other x (inl e) =
-        subst (λ y. still_open (view (end t)) (value_at n k (place db.Opens y)) ≡ still_open (view (end u)) (value_at n j (place db.Opens y))) e
-        (open_alike setup n k j t u stands stands_other fine fine_other opens [] files names own same (end t) (end u) shown_end (open_key named.pid made) (inl refl) (λ r is. (
-          met_file r is,
-          of_file_then t r.id r.file (of_named_file n k t names_t (open_key named.pid made) r is),
-          of_file_then u r.id r.file (of_named_file n j u names_u (open_key named.pid made) r (sym same_open ∙ is)),
-        )))
-    still_end names_t names_u none none_other x (inr (inl e)) =
-        subst (λ y. still_open (view (end t)) (value_at n k (place db.Opens y)) ≡ still_open (view (end u)) (value_at n j (place db.Opens y))) e
-        (unread (view (end t)) (value_at n k (place db.Opens (open_key info.pid number))) none ∙ sym (unread (view (end u)) (value_at n j (place db.Opens (open_key info.pid number))) none_other))
-    still_end names_t names_u none none_other x (inr (inr e)) = absurd e
+use Rattle.table_laws.proofs.ReconnectAnswers.{changes_alike, shown_end, lease_end, ids_end, still_end}
 
 -- ---- the open record that it adds
 
@@ -395,16 +61,13 @@ module _ (setup : Setup) (n by seq number : ℕ) (moment : Moment) (worker made 
       λ x info. ap (λ o. option_map_or (met_by_reconnect setup n x info number made key) o nothing_met) declared in
       call_written setup n by seq number moment reconnecting reply (λ x t info session stands alive. subst (λ (m : Met). IsIn (pid_key info.pid) m.register) (sym (meets x info)) (inl refl)) (λ x. refl) (λ k j t u caller info b.
       let same : (p : Place) → among p (all_met (met_by_reconnect setup n k info number made key named)) ≡ true → value_at n k p ≡ value_at n j p = λ p h. b.same p (ap (λ m. among p (all_met m)) (meets k info) ∙ h) in
-      let opens = open_key named.pid made ∷ open_key info.pid number ∷ [] in
-      let files = named_at open_rec (file_of setup) n k db.Opens (open_key named.pid made ∷ []) in
-      let names = name_key (record { guid = info.guid; key = key }) ∷ [] in
-      let own = pid_key info.pid ∷ [] in
+      let keys = keys_of_reconnect setup n k info number made key named in
       let handle : (x : Table) → IsNewNumber info.pid number x → IsNewNumber caller.sid.pid caller.number x =
       λ x new. subst (λ pid. IsNewNumber pid caller.number x) (sym b.pid) (subst (λ m. IsNewNumber info.pid m x) (sym b.number_is) new) in
       let changes = changes_alike setup n k j t u b.stands b.stands_other b.fine b.fine_other caller info named number worker made key declared same b.settled b.settled_other in
       let cs = (outcome setup (view t) caller reconnecting).changes in
       let same_end : perform_all (outcome setup (view u) caller reconnecting).changes u ≡ perform_all cs u = ap (λ ds. perform_all ds u) (sym changes) in
-      let shown : (file : ℕ) → IsIn (file_key setup file) files → file_view file (view (perform_all cs t)) ≡ file_view file (view (perform_all cs u)) =
+      let shown : (file : ℕ) → IsIn (file_key setup file) keys.files → file_view file (view (perform_all cs t)) ≡ file_view file (view (perform_all cs u)) =
       λ file i. shown_end setup n k j t u b.stands b.stands_other b.fine b.fine_other caller info named number worker made key declared same b.settled b.settled_other (handle t b.new) (handle u b.new_other) b.alive b.alive_other file i
       ∙ ap (λ (x : Table). file_view file (view x)) same_end in
       let ids =
@@ -412,9 +75,9 @@ module _ (setup : Setup) (n by seq number : ℕ) (moment : Moment) (worker made 
       ∙ ap (λ (x : Table). (view x).opens_of_id (record { pid = named.pid; call = made })) same_end in
       subst (λ (m : Met). WritesAlike setup n (call_entry by seq number moment reconnecting reply) m k j t u cs (outcome setup (view u) caller reconnecting).changes) (sym (meets k info)) (record {
         changes = changes;
-        exact = λ sound sound_other. records_alike setup n k j t u b.stands b.stands_other b.fine b.fine_other opens [] files names own same cs sound sound_other shown (λ name i.
+        exact = λ sound sound_other. records_alike setup n k j t u b.stands b.stands_other b.fine b.fine_other keys.opens [] keys.files keys.names keys.own same cs sound sound_other shown (λ name i.
             lease_end setup n k j t u b.stands b.stands_other b.fine b.fine_other caller info named number worker made key declared same b.settled b.settled_other (handle t b.new) (handle u b.new_other) b.alive b.alive_other
-            sound (subst IsSound (sym same_end) sound_other) name (lease_same setup n k j opens [] files names own same name i)
+            sound (subst IsSound (sym same_end) sound_other) name (lease_same setup n k j keys.opens [] keys.files keys.names keys.own same name i)
             ∙ ap (λ (x : Table). exact_lease (view x) name) same_end);
         opens = λ x i.
             ap (λ a. new_open_record (view (perform_all cs t)) a (place db.Opens x) (value_at n k (place db.Opens x))) (added_alike setup by seq number moment worker made key named declared (view (perform_all cs t)) (view (perform_all cs u)) ids reply)

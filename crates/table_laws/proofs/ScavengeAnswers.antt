@@ -56,7 +56,7 @@ use Rattle.table_laws.proofs.SameFiles.{opens_told, flat_same}
 use Rattle.table_laws.proofs.Answering.{legal_if_agreed}
 use Rattle.table_laws.proofs.AckAnswers.{leases_same}
 use Rattle.table_laws.proofs.OpenAnswers.{file_settled}
-use Rattle.table_laws.proofs.ReconnectAnswers.{ends_none, ended_after, ended_same}
+use Rattle.table_laws.proofs.EndedSessions.{ends_none, ended_after, ended_same}
 
 -- all records of files, leases and workers are the same in both
 pub record SameEverywhere (s z : AllRecords) : Type 0 where

@@ -1,7 +1,8 @@
 -- Watches in records that aren't written: those of waiters that went count no longer, the others as before.
 use Rattle.std.proofs.Common.{◌≡◌, ℕ, Bool, true, false, ◌==◌, ◌&&◌, ◌||◌, List, [], ◌∷◌, ◌++◌, map, filter, Option, Some, None, refl, sym, ap, ◌∙◌, subst}
+use Rattle.std.proofs.Math.Bool.{or-false}
 use Rattle.std.specs.Prelude.{IfSome}
-use Rattle.std.specs.List.{list_any, AllByRecursion}
+use Rattle.std.specs.List.{list_any}
 use Rattle.std.specs.Option.{option_map_or}
 use Rattle.std.proofs.lemmas.Bool.{and_parts, and_from, and_right, both_ways, eqb-true, eq-eqb, true_from_ne_false, false_from_ne_true}
 use Rattle.sid_core.specs.declared.ids.Sid.{Sid}
@@ -18,7 +19,7 @@ use Rattle.serial_table.specs.Sound.{IsSound}
 use Rattle.serial_table.proofs.Names.{same_sid-eq}
 use Rattle.serial_table.proofs.SameIds.{same_sid-refl}
 use Rattle.serial_table.proofs.Filters.{filter-filter}
-use Rattle.serial_table.proofs.Members.{IsIn, all_of, any_none, any_of, in_filter, in_map}
+use Rattle.serial_table.proofs.Members.{IsIn, all_of, all_by, any_none, any_of, in_filter, in_map}
 use Rattle.record_codec.specs.declared.watch.WatchRec.{WatchRec}
 use Rattle.record_codec.specs.Counts.{has_token, has_token_at}
 use Rattle.stored_table.specs.Places.{Place, among}
@@ -90,19 +91,11 @@ module _ (setup : Setup) (ps : List Place) (s : AllRecords) (t u : Table) (sound
         ap (list_any p) step.rows
         ∙ any_joined p (filter stays_by t.waiters) step.new
         ∙ ap (λ b. list_any p (filter stays_by t.waiters) || b) (any_none p step.new (λ x i. and_right (waits_for sid x) _ (ap (λ b. b && (x.call == call)) (none_new x i))))
-        ∙ or_nothing (list_any p (filter stays_by t.waiters))
+        ∙ or-false (list_any p (filter stays_by t.waiters))
         ∙ any_in_filter p stays_by t.waiters
-        ∙ any_alike (λ x. stays_by x && p x) (λ x. step.stays sid call && p x) t.waiters (all_same (λ x. (stays_by x && p x) ≡ (step.stays sid call && p x)) t.waiters (λ x. by_same x (p x) refl))
+        ∙ any_alike (λ x. stays_by x && p x) (λ x. step.stays sid call && p x) t.waiters (all_by (λ x. (stays_by x && p x) ≡ (step.stays sid call && p x)) t.waiters (λ x i. by_same x (p x) refl))
         ∙ any_held (step.stays sid call) p t.waiters
       where
-        or_nothing : (b : Bool) → (b || false) ≡ b
-        or_nothing true = refl
-        or_nothing false = refl
-
-        all_same : (P : WaiterRow → Type 0) (xs : List WaiterRow) → ((x : WaiterRow) → P x) → AllByRecursion P xs
-        all_same P [] h = tt
-        all_same P (x ∷ xs) h = (h x, all_same P xs h)
-
         by_same : (x : WaiterRow) (b : Bool) → (waits_for sid x && (waits_on spot x && (x.call == call))) ≡ b → (stays_by x && b) ≡ (step.stays sid call && b)
         by_same x false e = and_right (stays_by x) false refl ∙ sym (and_right (step.stays sid call) false refl)
         by_same x true e =
@@ -146,19 +139,11 @@ module _ (setup : Setup) (ps : List Place) (s : AllRecords) (t u : Table) (sound
       ap (list_any p) step.rows
       ∙ any_joined p (filter stays_by t.waiters) step.new
       ∙ ap (λ b. list_any p (filter stays_by t.waiters) || b) (any_none p step.new (λ x i. all_of _ (register_watchers s pid) ((step.added x i).fresh pid) watch within))
-      ∙ or_nothing (list_any p (filter stays_by t.waiters))
+      ∙ or-false (list_any p (filter stays_by t.waiters))
       ∙ any_in_filter p stays_by t.waiters
-      ∙ any_alike (λ x. stays_by x && p x) (λ x. step.stays watch.sid watch.call && p x) t.waiters (all_same (λ x. (stays_by x && p x) ≡ (step.stays watch.sid watch.call && p x)) t.waiters (λ x. by_same x (p x) refl))
+      ∙ any_alike (λ x. stays_by x && p x) (λ x. step.stays watch.sid watch.call && p x) t.waiters (all_by (λ x. (stays_by x && p x) ≡ (step.stays watch.sid watch.call && p x)) t.waiters (λ x i. by_same x (p x) refl))
       ∙ any_held (step.stays watch.sid watch.call) p t.waiters
     where
-      or_nothing : (b : Bool) → (b || false) ≡ b
-      or_nothing true = refl
-      or_nothing false = refl
-
-      all_same : (P : WaiterRow → Type 0) (xs : List WaiterRow) → ((x : WaiterRow) → P x) → AllByRecursion P xs
-      all_same P [] h = tt
-      all_same P (x ∷ xs) h = (h x, all_same P xs h)
-
       by_same : (x : WaiterRow) (b : Bool) → (waits_for watch.sid x && (x.call == watch.call)) ≡ b → (stays_by x && b) ≡ (step.stays watch.sid watch.call && b)
       by_same x false e = and_right (stays_by x) false refl ∙ sym (and_right (step.stays watch.sid watch.call) false refl)
       by_same x true e =

@@ -2,28 +2,15 @@ use Rattle.std.proofs.Common.{subst, sym}
 use Rattle.sid_core.specs.Faults.{Rose}
 use Rattle.opendb_run.specs.declared.words.Command.TheVariants.{SmbStatus}
 use Rattle.opendb_run.specs.Run.{ScriptEnded}
-use Rattle.opendb_run.proofs.Living.{script_taken}
 use Rattle.opendb_run.proofs.Playing.{end_shows}
 use Rattle.opendb_run.proofs.Ending.{tables_cut}
 use Rattle.opendb_run.proofs.top.print_tables.Goals as goal
 
-pub show-requires-clause-taken : goal.show-requires-clause-taken
-show-requires-clause-taken g c =
-    let stay = c.the_living_stay.ensures in
-    let rises = c.sessions_rise_by_one.ensures in
-    script_taken c.args.script.now c.requires c.the_living_call.ensures stay.start stay.call stay.death rises.start rises.event rises.caller
-
 pub returns-in-Ok-clause-ended : goal.returns-in-Ok-clause-ended
 returns-in-Ok-clause-ended g c = λ chains.
-    let stay = c.the_living_stay.ensures in
-    let rises = c.sessions_rise_by_one.ensures in
-    let taken = script_taken c.args.script.now c.requires c.the_living_call.ensures stay.start stay.call stay.death rises.start rises.event rises.caller in
-    (_, end_shows c.args.script.now c.args.chosen c.requires taken, c.in-Ok.ensures.done)
+    (_, end_shows c.args.script.now c.args.chosen c.requires (c.scripts_are_taken.ensures c.args.script.now c.requires), c.in-Ok.ensures.done)
 
 pub returns-in-Err-clause-ended : goal.returns-in-Err-clause-ended
 returns-in-Err-clause-ended g c = λ chains.
-    let stay = c.the_living_stay.ensures in
-    let rises = c.sessions_rise_by_one.ensures in
-    let taken = script_taken c.args.script.now c.requires c.the_living_call.ensures stay.start stay.call stay.death rises.start rises.event rises.caller in
     subst (λ status. ScriptEnded (SmbStatus c.args.chosen chains) c.args.script.now (g.O.Sink.written c.args.out.now) (g.O.Sink.written c.show.new.out) (Rose (g.O.Sink.faults c.args.out.now) (g.O.Sink.faults c.show.new.out)) status) (sym c.status_of_cut.ensures)
-    (tables_cut c.args.script.now c.args.chosen c.requires taken chains _ _ _ c.in-Err.cut c.in-Err.ensures.cut)
+    (tables_cut c.args.script.now c.args.chosen c.requires (c.scripts_are_taken.ensures c.args.script.now c.requires) chains _ _ _ c.in-Err.cut c.in-Err.ensures.cut)

@@ -1,19 +1,15 @@
-use Rattle.std.proofs.Common.{◌≡◌, ◌++◌, Some, sym, ap, ◌∙◌}
+use Rattle.std.proofs.Common.{◌++◌, [], sym, ap, ◌∙◌}
 use Rattle.std.proofs.lemmas.Result.{on_ok_weaker}
 use Rattle.std.specs.List.{flat_map}
-use Rattle.std.specs.Option.{option_copied}
-use Rattle.serial_table.specs.ByNumber.{declared_at}
+use Rattle.std.specs.Option.{option_copied, option_map_or}
 use Rattle.share_modes.specs.Entries.{known}
 use Rattle.smbstatus_text.specs.Rows.{counted_range_row}
-use Rattle.smbstatus_text.proofs.Counted.{ranges_told}
 use Rattle.smbstatus_text.proofs.ranges.push_file.Goals as goal
 
 pub returns-in-Some : goal.returns-in-Some
 returns-in-Some c =
     let a = c.args in
-    let row = counted_range_row c.in-Some.info.now (known a.leases.now a.register.now) a.ranges.now.file in
-    let is : declared_at a.setup.now.files a.ranges.now.file ≡ Some c.in-Some.info.now =
-    ap (λ files. declared_at files a.ranges.now.file) (sym c.as_slice.ensures) ∙ sym c.declared.ensures ∙ ap option_copied c.in-Some.is
-    in
-    ranges_told c.push_declared.result a.out.now.items c.push_declared.new.out.items a.setup.now (known a.leases.now a.register.now) a.ranges.now a.opens.now c.requires c.in-Some.info.now is
-    (on_ok_weaker c.push_declared.result (λ e. e ∙ ap (λ entries. a.out.now.items ++ flat_map (row entries) a.ranges.now.ranges) c.as_slice-in-Some.ensures) c.push_declared.ensures)
+    on_ok_weaker c.push_declared.result (λ e.
+    e
+    ∙ ap (λ o. a.out.now.items ++ option_map_or (λ info. flat_map (counted_range_row info (known a.leases.now a.register.now) a.ranges.now.file a.entries.now) a.ranges.now.ranges) o [])
+    (sym (ap option_copied c.in-Some.is) ∙ c.declared.ensures)) c.push_declared.ensures

@@ -1,4 +1,4 @@
-use Rattle.std.proofs.Common.{◌≡◌, [], ◌++◌, Some, sym, ap, ◌∙◌, append_assoc}
+use Rattle.std.proofs.Common.{◌≡◌, cond, [], ◌++◌, Some, sym, ap, ◌∙◌, append_assoc}
 use Rattle.std.specs.List.{flat_map}
 use Rattle.std.specs.Option.{option_map, option_map_or, unwrap_or}
 use Rattle.sid_core.specs.declared.reply.Reply.TheVariants.{Unsuccessful}
@@ -8,9 +8,11 @@ use Rattle.serial_table.specs.Decision.{Outcome}
 use Rattle.serial_table.specs.Step.{caller_of, answer_of, posts_of}
 use Rattle.serial_table.specs.Text.{call_line, post_line, tables_under}
 use Rattle.opendb_run.specs.Play.{call_event}
-use Rattle.opendb_run.proofs.play.make_call.Goals as goal
+use Rattle.opendb_run.specs.Playing.{text_of_call}
+use Rattle.opendb_run.proofs.play.play_call.Goals as goal
 
 pub returns-clause-text : goal.returns-clause-text
+unfolding text_of_call
 returns-clause-text g c =
     let setup = c.args.setup.now in
     let t = c.args.table.now in
@@ -31,3 +33,4 @@ returns-clause-text g c =
     ∙ (λ i. next i ++ (c.as_slice-2.ensures.value ∙ c.in_ok-shown.ensures p.number m (unwrap_or (answer_of setup v p.worker p.number m p.call) Unsuccessful)) i)
     ∙ append_assoc (c.args.text.now ++ line) posts under
     ∙ append_assoc c.args.text.now line (posts ++ under)
+    ∙ ap (λ b. c.args.text.now ++ cond b (line ++ (posts ++ under)) []) (sym (sym c.is_entered.ensures ∙ c.if-not-is_entered.false))
