@@ -25,7 +25,6 @@ use Rattle.serial_table.specs.declared.table.Table.{Table}
 use Rattle.serial_table.specs.declared.change.Change.{Change}
 use Rattle.serial_table.specs.declared.change.Change.TheVariants as c
 use Rattle.serial_table.specs.History.{start}
-use Rattle.serial_table.specs.Lists.{drop_first}
 use Rattle.serial_table.specs.View.{view, lives, has_pid, is_of_handle, is_to, is_end_of, names_file}
 use Rattle.serial_table.specs.File.{FileView, file_view, is_under}
 use Rattle.serial_table.specs.Settle.{settle_where, broken_to_needed, settled_lease, row_stays, range_stays, lease_settles, lease_stays, pending_stays}
@@ -35,47 +34,11 @@ use Rattle.serial_table.specs.Sound.{Fits, AllFit}
 use Rattle.serial_table.specs.InSets.{IsPid, IsSid, IsFileNumber, IsOpenRow, IsLeaseRow, IsBreaking, IsRangeRow, IsHoldRow, IsWaiterRow, IsPost, IsWorkerRow, IsEndedRow, names_worker, ended_sessions, ended_count, IsInSets, Brings, AllBring}
 use Rattle.serial_table.proofs.Filters.{find-map, filter_one_out}
 use Rattle.serial_table.proofs.Views.{pid-end_session, pid-begin_session}
-use Rattle.serial_table.proofs.Members.{all_of, all_by, none_of, some_same, in_filter, in_drop, found_in}
+use Rattle.serial_table.proofs.Listed.{Listed, more, kept, left, changed}
+use Rattle.serial_table.proofs.Members.{all_of, all_by, none_of, some_same, found_in}
 use Rattle.serial_table.proofs.SameIds.{eqb-flip}
 use Rattle.serial_table.proofs.Living.{row_of}
 use Rattle.serial_table.proofs.Fitting.{kept_along}
-
--- ---- lists whose rows lie in their sets
-
-module _ {X : Type 0} (P : X → Type 0) where
-  all_more : (xs : List X) (x : X) → AllByRecursion P xs → P x → AllByRecursion P (xs ++ x ∷ [])
-  all_more [] x all h = (h, tt)
-  all_more (y ∷ ys) x all h = (all.0, all_more ys x all.1 h)
-
-  all_kept : (p : X → Bool) (xs : List X) → AllByRecursion P xs → AllByRecursion P (filter p xs)
-  all_kept p xs all = all_by P (filter p xs) (λ x i. all_of P xs all x (in_filter p xs x i).0)
-
-  all_left : (p : X → Bool) (xs : List X) → AllByRecursion P xs → AllByRecursion P (drop_first p xs)
-  all_left p xs all = all_by P (drop_first p xs) (λ x i. all_of P xs all x (in_drop p xs x i))
-
-  all_changed : (f : X → X) → ((x : X) → P x → P (f x)) → (xs : List X) → AllByRecursion P xs → AllByRecursion P (map f xs)
-  all_changed f h [] all = tt
-  all_changed f h (x ∷ xs) all = (h x all.0, all_changed f h xs all.1)
-
-record Rows {X : Type 0} (P : X → Type 0) : Type 0 where
-  rows : List X
-  all : AllByRecursion P rows
-
-module _ {X : Type 0} {P : X → Type 0} where
-  -- one more row
-  abbrev more : Rows P → (x : X) → P x → Rows P
-  more r x h = record { rows = r.rows ++ x ∷ []; all = all_more P r.rows x r.all h }
-
-  -- the rows that pass
-  abbrev kept : (X → Bool) → Rows P → Rows P
-  kept p r = record { rows = filter p r.rows; all = all_kept P p r.rows r.all }
-
-  -- all but the first that passes
-  abbrev left : (X → Bool) → Rows P → Rows P
-  left p r = record { rows = drop_first p r.rows; all = all_left P p r.rows r.all }
-
-  abbrev changed : (f : X → X) → ((x : X) → P x → P (f x)) → Rows P → Rows P
-  changed f h r = record { rows = map f r.rows; all = all_changed P f h r.rows r.all }
 
 -- ---- a table by its lists, each with what says that it lies in its sets
 
@@ -84,34 +47,34 @@ abbrev sessions_in : List EndedRow → ℕ → List ℕ
 sessions_in ended pid = map (λ (row : EndedRow). row.sid.session) (filter (is_end_of pid) ended)
 
 record Parts (setup : Setup) : Type 0 where
-  opens : Rows (IsOpenRow setup)
-  leases : Rows (IsLeaseRow setup)
-  ranges : Rows (IsRangeRow setup)
-  holds : Rows (IsHoldRow setup)
-  waiters : Rows (IsWaiterRow setup)
-  letters : Rows (IsPost setup)
-  workers : Rows (IsWorkerRow setup)
+  opens : Listed (IsOpenRow setup)
+  leases : Listed (IsLeaseRow setup)
+  ranges : Listed (IsRangeRow setup)
+  holds : Listed (IsHoldRow setup)
+  waiters : Listed (IsWaiterRow setup)
+  letters : Listed (IsPost setup)
+  workers : Listed (IsWorkerRow setup)
   all_workers : map names_worker workers.rows ≡ map names_worker (start setup).workers
-  ended : Rows (IsEndedRow setup)
+  ended : Listed (IsEndedRow setup)
   ended_in_order : (pid : ℕ) → CountsFrom 1 (sessions_in ended.rows pid)
   ended_all : (pid : ℕ) → IfSome (find (has_pid pid) workers.rows) (λ worker. length (sessions_in ended.rows pid) ≡ ended_count worker)
-  pending : Rows (IsFileNumber setup)
+  pending : Listed (IsFileNumber setup)
 
 module _ {setup : Setup} where
   abbrev parts : (t : Table) → IsInSets setup t → Parts setup
   parts t k = record {
-    opens = record { rows = t.opens; all = k.opens };
-    leases = record { rows = t.leases; all = k.leases };
-    ranges = record { rows = t.ranges; all = k.ranges };
-    holds = record { rows = t.holds; all = k.holds };
-    waiters = record { rows = t.waiters; all = k.waiters };
-    letters = record { rows = t.letters; all = k.letters };
-    workers = record { rows = t.workers; all = k.workers };
+    opens = record { rows = t.opens; each = all_of (IsOpenRow setup) t.opens k.opens };
+    leases = record { rows = t.leases; each = all_of (IsLeaseRow setup) t.leases k.leases };
+    ranges = record { rows = t.ranges; each = all_of (IsRangeRow setup) t.ranges k.ranges };
+    holds = record { rows = t.holds; each = all_of (IsHoldRow setup) t.holds k.holds };
+    waiters = record { rows = t.waiters; each = all_of (IsWaiterRow setup) t.waiters k.waiters };
+    letters = record { rows = t.letters; each = all_of (IsPost setup) t.letters k.letters };
+    workers = record { rows = t.workers; each = all_of (IsWorkerRow setup) t.workers k.workers };
     all_workers = k.all_workers;
-    ended = record { rows = t.ended; all = k.ended };
+    ended = record { rows = t.ended; each = all_of (IsEndedRow setup) t.ended k.ended };
     ended_in_order = k.ended_in_order;
     ended_all = k.ended_all;
-    pending = record { rows = t.pending; all = k.pending };
+    pending = record { rows = t.pending; each = all_of (IsFileNumber setup) t.pending k.pending };
   }
 
   abbrev table_of : Parts setup → Table
@@ -129,18 +92,18 @@ module _ {setup : Setup} where
 
   in_sets : (p : Parts setup) → IsInSets setup (table_of p)
   in_sets p = record {
-    opens = p.opens.all;
-    leases = p.leases.all;
-    ranges = p.ranges.all;
-    holds = p.holds.all;
-    waiters = p.waiters.all;
-    letters = p.letters.all;
-    workers = p.workers.all;
+    opens = all_by (IsOpenRow setup) p.opens.rows p.opens.each;
+    leases = all_by (IsLeaseRow setup) p.leases.rows p.leases.each;
+    ranges = all_by (IsRangeRow setup) p.ranges.rows p.ranges.each;
+    holds = all_by (IsHoldRow setup) p.holds.rows p.holds.each;
+    waiters = all_by (IsWaiterRow setup) p.waiters.rows p.waiters.each;
+    letters = all_by (IsPost setup) p.letters.rows p.letters.each;
+    workers = all_by (IsWorkerRow setup) p.workers.rows p.workers.each;
     all_workers = p.all_workers;
-    ended = p.ended.all;
+    ended = all_by (IsEndedRow setup) p.ended.rows p.ended.each;
     ended_in_order = p.ended_in_order;
     ended_all = p.ended_all;
-    pending = p.pending.all;
+    pending = all_by (IsFileNumber setup) p.pending.rows p.pending.each;
   }
 
 -- ---- who lives is a session of a declared worker
@@ -311,8 +274,8 @@ module _ (setup : Setup) where
   in_sets-perform (c.DropRange range) t k fit own = let p = parts t k in in_sets (record p { ranges = left (same_range range) p.ranges })
   in_sets-perform (c.AddPending file) t k fit own =
       let p = parts t k in
-      let all = cond_both (list_any (names_file file) t.pending) t.pending (t.pending ++ file ∷ []) (AllByRecursion (IsFileNumber setup)) (λ _. k.pending) (λ _. (more p.pending file own).all) in
-      in_sets (record p { pending = record { rows = with_pending file t.pending; all = all } })
+      cond_both (list_any (names_file file) t.pending) t.pending (t.pending ++ file ∷ []) (λ files. IsInSets setup (record t { pending = files })) (λ _. k)
+      (λ _. in_sets (record p { pending = more p.pending file own }))
   in_sets-perform (c.DropPending file) t k fit own = let p = parts t k in in_sets (record p { pending = kept (λ pending. not (names_file file pending)) p.pending })
   in_sets-perform (c.AddHold hold) t k fit own =
       let p = parts t k in in_sets (record p { holds = more p.holds hold (record { owner = sid_of setup t hold.owner k.workers fit.owner; key = own }) })
