@@ -181,7 +181,7 @@ behind_copy : (setup : Setup) (t u : Table) (caller : Caller) (call : Call) → 
     → perform_all (outcome setup (view t) caller call).changes t ≡ perform_all (conclude (view u) (decide setup (view u) caller call)).changes u
 behind_copy setup t u caller call e = outcome_table setup t caller call ∙ ap (λ (w : Table). perform_all (conclude (view w) (decide setup (view w) caller call)).changes w) (sym e)
 
-behind_copy_reply : (setup : Setup) (t u : Table) (caller : Caller) (call : Call) → u ≡ behind setup t caller call → (outcome setup (view t) caller call).reply ≡ (decide setup (view u) caller call).reply
+pub behind_copy_reply : (setup : Setup) (t u : Table) (caller : Caller) (call : Call) → u ≡ behind setup t caller call → (outcome setup (view t) caller call).reply ≡ (decide setup (view u) caller call).reply
 unfolding conclude
 behind_copy_reply setup t u caller call e = behind_reply (expired_by setup (view t) caller call) setup t caller call ∙ ap (λ (w : Table). (decide setup (view w) caller call).reply) (sym e)
 

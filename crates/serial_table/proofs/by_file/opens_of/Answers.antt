@@ -1,7 +1,6 @@
-use Rattle.std.proofs.Common.{ltb, leb, ◌-◌, length, take, drop, sym, subst, rules, List}
+use Rattle.std.proofs.Common.{ltb, leb, rules}
 use Rattle.std.proofs.lemmas.List.{take_rest}
-use Rattle.std.proofs.lemmas.List.Sorted.{IsPartitionPoint-from_clause, IsPartitionedBy-leb, IsPartitionedBy-ltb, IsNonDecreasingBy-drop}
-use Rattle.std.specs.List.Sorted.{IsNonDecreasingBy}
+use Rattle.std.proofs.lemmas.List.Sorted.{IsPartitionPoint-from_clause}
 use Rattle.serial_table.specs.declared.rows.OpenRow.{OpenRow}
 use Rattle.serial_table.specs.ByFile.{file_of_open}
 use Rattle.serial_table.proofs.Runs.{run_of}
@@ -9,6 +8,9 @@ use Rattle.serial_table.proofs.by_file.opens_of.Goals as goal
 
 pub returns : goal.returns
 returns c =
-    run_of file_of_open c.args.file c.args.sorted.now _ _ _ (take_rest _ _) c.requires c.partition_point-start.ensures.bound c.partition_point-count.ensures.bound
-    (λ parted. IsPartitionPoint-from_clause _ _ _ c.partition_point-start.ensures.partitioned parted (λ a r q k. search rules))
-    (λ parted. IsPartitionPoint-from_clause _ _ _ c.partition_point-count.ensures.partitioned parted (λ a r q k. search rules))
+    let file = c.args.file in
+    let xs = c.args.sorted.now in
+    let start = c.partition_point-start.result in
+    run_of file_of_open file xs _ start c.partition_point-count.result (take_rest xs start) c.requires c.partition_point-start.ensures.bound c.partition_point-count.ensures.bound
+    (λ parted. IsPartitionPoint-from_clause (λ (row : OpenRow). ltb row.file file) xs _ c.partition_point-start.ensures.partitioned parted (λ a r q k. search rules))
+    (λ parted. IsPartitionPoint-from_clause (λ (row : OpenRow). leb row.file file) _ _ c.partition_point-count.ensures.partitioned parted (λ a r q k. search rules))
