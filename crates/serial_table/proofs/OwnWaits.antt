@@ -23,7 +23,7 @@ use Rattle.serial_table.specs.Sound.{IsConsistent, IsNewWaiter, AllAlong, AllFit
 use Rattle.serial_table.specs.InSets.{Brings}
 use Rattle.serial_table.proofs.SameIds.{same_sid-refl}
 use Rattle.serial_table.proofs.Members.{IsIn, any_none, none_of, mapped_in, passes_in}
-use Rattle.serial_table.proofs.Concluding.{PassesFinishing, no_more_all, perform_all-append}
+use Rattle.serial_table.proofs.Concluding.{no_more_all, perform_all-append}
 use Rattle.serial_table.proofs.Workers.{keeps_waits}
 use Rattle.serial_table.proofs.Consistent.{consistent-perform_all}
 use Rattle.serial_table.proofs.Counting.{sum_mapped}

@@ -1,10 +1,6 @@
-use Rattle.std.proofs.Common.{◌∙◌, sym, ap, subst}
+use Rattle.std.proofs.Common.{◌∙◌, sym, ap}
 use Rattle.std.proofs.lemmas.Bool.{both_ways}
-use Rattle.std.specs.List.{list_all}
 use Rattle.serial_table.specs.declared.decision.Decision.{Decision}
-use Rattle.serial_table.specs.View.{view}
-use Rattle.serial_table.specs.Decision.{settling}
-use Rattle.serial_table.specs.InPlace.{is_made, scope_of, AreEnough}
 use Rattle.serial_table.proofs.Scoped.{decided_made, decided_enough}
 use Rattle.serial_table.proofs.table.Table.apply_behind.Goals as goal
 

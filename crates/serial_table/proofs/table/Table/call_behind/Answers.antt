@@ -1,9 +1,3 @@
-use Rattle.std.proofs.Common.{◌∙◌, sym, ap, subst}
-use Rattle.std.specs.List.{list_all}
-use Rattle.serial_table.specs.declared.decision.Decision.{Decision}
-use Rattle.serial_table.specs.View.{view}
-use Rattle.serial_table.specs.Decision.{settling}
-use Rattle.serial_table.specs.InPlace.{is_made, scope_of, AreEnough}
 use Rattle.serial_table.proofs.Scoped.{decided_made, decided_enough}
 use Rattle.serial_table.proofs.table.Table.call_behind.Goals as goal
 
