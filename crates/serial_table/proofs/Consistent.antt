@@ -57,7 +57,7 @@ module _ {X : Type 0} where
   any_more : (p : X → Bool) (xs ys : List X) → list_any p xs ≡ true → list_any p (xs ++ ys) ≡ true
   any_more p xs ys e = let o = one_of p xs e in any_of p (xs ++ ys) o.0 (old_in xs ys o.0 o.1) o.2
 
--- ---- a table by its lists, and what is said of them while its workers stay
+-- ---- a table by its lists, and what is said of them while its workers stay; a change gives the lists that it alters, and what is said of these
 
 record Rows (t : Table) : Type 0 where
   opens : List OpenRow

@@ -40,7 +40,7 @@ use Rattle.serial_table.proofs.SameIds.{eqb-flip}
 use Rattle.serial_table.proofs.Living.{row_of}
 use Rattle.serial_table.proofs.Fitting.{kept_along}
 
--- ---- a table by its lists, each with what says that it lies in its sets
+-- ---- a table by its lists, each with what says that it lies in its sets; a change gives the lists that it alters
 
 -- the sessions of a pid among those that have ended
 abbrev sessions_in : List EndedRow → ℕ → List ℕ

@@ -89,7 +89,7 @@ blocker_of : (low : ℕ → ℕ) (t : Table) (blocker : Option Sid) → IsNumber
 blocker_of low t None n e = tt
 blocker_of low t (Some sid) n e = session_of low t sid n e
 
--- ---- each change
+-- ---- the lists of rows that have numbers, each with what holds of its rows; a change gives those that it alters
 
 record Parts (low : ℕ → ℕ) : Type 0 where
   opens : Listed (IsNumberedOpen low)
@@ -115,6 +115,8 @@ module _ {low : ℕ → ℕ} where
 
   numbered : (t : Table) (p : Parts low) → IsNumbered low (with_parts t p)
   numbered t p = record { opens = p.opens.each; holds = p.holds.each; waiters = p.waiters.each; letters = p.letters.each; workers = p.workers.each; ended = p.ended.each }
+
+-- ---- each change
 
 open_taken : (low : ℕ → ℕ) (file : ℕ) (id : OpenId) (owner : Sid) (handle : ℕ) → IsSessionUpTo low owner → handle ≤ low owner.pid → (o : OpenRow) → IsNumberedOpen low o
     → IsNumberedOpen low (new_owner file id owner handle o)
