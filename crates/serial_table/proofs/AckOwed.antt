@@ -132,7 +132,7 @@ ack_passes : (p : Change → Bool) → PassesRows p → (now : Moment) (v : View
 ack_passes p h now v state leases =
     of_ack (λ d. list_all p d.changes ≡ true) now v state leases (record {
       replies = λ reply. refl;
-      accepts = λ lease i breaking e. one_passes p h _ _ (h.acknowledged lease.file lease.name state) (lease_passes p h now lease.file (file_view lease.file v) breaking.needed.0 (acknowledged lease state));
+      accepts = λ lease i breaking e. one_passes p h _ _ (h.rows (c.Acknowledge lease.file lease.name state) refl) (lease_passes p h now lease.file (file_view lease.file v) breaking.needed.0 (acknowledged lease state));
     })
 
 pub ack_keeps : (v : View) (caller : Caller) (key : ℕ) (state : LeaseState) → list_all keeps_workers (ack v caller key state).changes ≡ true

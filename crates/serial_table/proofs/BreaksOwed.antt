@@ -35,6 +35,8 @@ use Rattle.serial_table.proofs.Members.{IsIn, all_each}
 use Rattle.serial_table.proofs.SameWorkers.{keeps_workers}
 use Rattle.serial_table.proofs.Living.{lives_among}
 use Rattle.serial_table.proofs.Concluding.{PassesFinishing, no_more_all, perform_all-append}
+use Rattle.serial_table.proofs.Workers.{keeps_waits}
+use Rattle.serial_table.proofs.Deciding.{made_waits, kept_made}
 use Rattle.serial_table.proofs.Consistent.{consistent-perform_all}
 use Rattle.serial_table.proofs.Waits.{adds_waits}
 use Rattle.serial_table.proofs.Losing.{to_lose, adds_bits, bits-perform_all}
@@ -46,76 +48,7 @@ use Rattle.serial_table.proofs.BreaksLose.{Loses, both_lose, each_loses}
 use Rattle.serial_table.proofs.BreaksBring.{by_break, breaks_along, breaks_add_none, BreaksBring}
 use Rattle.serial_table.proofs.Owing.{brings, begins, no_more_waits, DecisionHolds, DecisionBrings}
 
--- ---- tests of changes that breaks pass, and the changes of rows around them
-
-pub record PassesRows (p : Change → Bool) : Type 0 where
-  pub finishing : PassesFinishing p
-  pub opened : (row : OpenRow) → p (c.AddOpen row) ≡ true
-  pub leased : (lease : LeaseRow) → p (c.AddLease lease) ≡ true
-  pub set : (file : ℕ) (name : LeaseName) (held : LeaseState) (breaking : Option Breaking) → p (c.SetLease file name held breaking) ≡ true
-  pub acknowledged : (file : ℕ) (name : LeaseName) (state : LeaseState) → p (c.Acknowledge file name state) ≡ true
-  pub ranged : (range : RangeRow) → p (c.AddRange range) ≡ true
-  pub settled : p c.Settle ≡ true
-
-pub rows_keep : PassesRows keeps_workers
-rows_keep = record {
-  finishing = record { comes = λ _. refl; goes = λ _ _. refl; sent = λ _. refl };
-  opened = λ _. refl;
-  leased = λ _. refl;
-  set = λ _ _ _ _. refl;
-  acknowledged = λ _ _ _. refl;
-  ranged = λ _. refl;
-  settled = refl;
-}
-
-pub rows_made : PassesRows is_made
-rows_made = record {
-  finishing = record { comes = λ _. refl; goes = λ _ _. refl; sent = λ _. refl };
-  opened = λ _. refl;
-  leased = λ _. refl;
-  set = λ _ _ _ _. refl;
-  acknowledged = λ _ _ _. refl;
-  ranged = λ _. refl;
-  settled = refl;
-}
-
-module _ (p : Change → Bool) (h : PassesRows p) where
-  pub one_passes : (change : Change) (cs : List Change) → p change ≡ true → list_all p cs ≡ true → list_all p (change ∷ cs) ≡ true
-  one_passes change cs e rest = and_from (p change) (list_all p cs) e rest
-
-  pub both_pass : (cs ds : List Change) → list_all p cs ≡ true → list_all p ds ≡ true → list_all p (cs ++ ds) ≡ true
-  both_pass cs ds first later = list_all-append p cs ds ∙ and_from (list_all p cs) (list_all p ds) first later
-
-  -- where the caller's own waits end before
-  pub own_pass : (caller : Caller) (watches : List Watch) (d : Decision) → list_all p d.changes ≡ true → list_all p (no_longer_waits caller watches d).changes ≡ true
-  own_pass caller watches d e = both_pass (own_waits_end caller watches) d.changes (no_more_all p h.finishing (filter (λ (watch : Watch). same_sid watch.sid caller.sid) watches)) e
-
-  to_passes : (now : Moment) (file : ℕ) (connected : List OpenRow) (l : LeaseRow) (target : ℕ) → list_all p (breaks_to now file connected l target).changes ≡ true
-  to_passes now file [] l target = one_passes _ (c.Settle ∷ []) (h.set _ _ _ _) (one_passes c.Settle [] h.settled refl)
-  to_passes now file (first ∷ others) l target =
-      cond_both (l.held.0 == 1) (breaks_read file first.owner l target) (begins_to_break now file first.owner l target) (λ (b : Breaks). list_all p b.changes ≡ true) (λ _. one_passes _ [] (h.set _ _ _ _) refl)
-      (λ _. one_passes _ [] (h.set _ _ _ _) refl)
-
-  by_passes : (now : Moment) (file : ℕ) (connected : List OpenRow) (kept : ℕ) (l : LeaseRow) (breaking : Option Breaking) → list_all p (break_by now file connected kept l breaking).changes ≡ true
-  by_passes now file connected kept l (Some b) = one_passes _ [] (h.set _ _ _ _) refl
-  by_passes now file connected kept l None = cond_both _ no_break (breaks_to now file connected l _) (λ (b : Breaks). list_all p b.changes ≡ true) (λ _. refl) (λ _. to_passes now file connected l _)
-
-  pub lease_passes : (now : Moment) (file : ℕ) (f : FileView) (kept : ℕ) (l : LeaseRow) → list_all p (break_lease now file f kept l).changes ≡ true
-  unfolding break_lease
-  lease_passes now file f kept l = by_passes now file (connected_under f l.name) kept l l.breaking
-
-  first_passes : (now : Moment) (file : ℕ) (f : FileView) (kept : ℕ) (ls : List LeaseRow) → list_all p (break_first now file f kept ls).changes ≡ true
-  first_passes now file f kept [] = refl
-  first_passes now file f kept (l ∷ ls) = lease_passes now file f kept l
-
-  pub each_passes : (now : Moment) (file : ℕ) (f : FileView) (kept : ℕ) (names : List LeaseName) → list_all p (break_each now file f kept names).changes ≡ true
-  unfolding break_each
-  each_passes now file f kept [] = refl
-  each_passes now file f kept (name ∷ names) =
-      let first = break_first now file f kept (f.leases name) in
-      both_pass first.changes _ (first_passes now file f kept (f.leases name)) (each_passes now file (perform_all_in_file first.changes f) kept names)
-
--- ---- changes of rows alone: who waits and who lives stay
+-- ---- changes of rows alone
 
 abbrev pub is_of_rows : Change → Bool
 is_of_rows (c.AddOpen row) = true
@@ -149,6 +82,56 @@ by_row P opened leased set acknowledged ranged settled (c.Send post) e = absurd 
 by_row P opened leased set acknowledged ranged settled (c.TakeLetter to) e = absurd cc
 by_row P opened leased set acknowledged ranged settled (c.EndSession sid moment) e = absurd cc
 by_row P opened leased set acknowledged ranged settled (c.NextSession sid moment) e = absurd cc
+
+-- ---- tests of changes that those of rows pass, and the end of waits
+
+pub record PassesRows (p : Change → Bool) : Type 0 where
+  pub finishing : PassesFinishing p
+  pub rows : (change : Change) → is_of_rows change ≡ true → p change ≡ true
+
+pub rows_keep : PassesRows keeps_workers
+rows_keep = record { finishing = keeps_waits; rows = by_row (λ change. keeps_workers change ≡ true) (λ row. refl) (λ lease. refl) (λ g name held breaking. refl) (λ g name state. refl) (λ range. refl) refl }
+
+pub rows_made : PassesRows is_made
+rows_made = record { finishing = made_waits; rows = λ change e. kept_made change (rows_keep.rows change e) }
+
+module _ (p : Change → Bool) (h : PassesRows p) where
+  pub one_passes : (change : Change) (cs : List Change) → p change ≡ true → list_all p cs ≡ true → list_all p (change ∷ cs) ≡ true
+  one_passes change cs e rest = and_from (p change) (list_all p cs) e rest
+
+  pub both_pass : (cs ds : List Change) → list_all p cs ≡ true → list_all p ds ≡ true → list_all p (cs ++ ds) ≡ true
+  both_pass cs ds first later = list_all-append p cs ds ∙ and_from (list_all p cs) (list_all p ds) first later
+
+  -- where the caller's own waits end before
+  pub own_pass : (caller : Caller) (watches : List Watch) (d : Decision) → list_all p d.changes ≡ true → list_all p (no_longer_waits caller watches d).changes ≡ true
+  own_pass caller watches d e = both_pass (own_waits_end caller watches) d.changes (no_more_all p h.finishing (filter (λ (watch : Watch). same_sid watch.sid caller.sid) watches)) e
+
+  to_passes : (now : Moment) (file : ℕ) (connected : List OpenRow) (l : LeaseRow) (target : ℕ) → list_all p (breaks_to now file connected l target).changes ≡ true
+  to_passes now file [] l target = one_passes _ (c.Settle ∷ []) (h.rows _ refl) (one_passes c.Settle [] (h.rows c.Settle refl) refl)
+  to_passes now file (first ∷ others) l target =
+      cond_both (l.held.0 == 1) (breaks_read file first.owner l target) (begins_to_break now file first.owner l target) (λ (b : Breaks). list_all p b.changes ≡ true) (λ _. one_passes _ [] (h.rows _ refl) refl)
+      (λ _. one_passes _ [] (h.rows _ refl) refl)
+
+  by_passes : (now : Moment) (file : ℕ) (connected : List OpenRow) (kept : ℕ) (l : LeaseRow) (breaking : Option Breaking) → list_all p (break_by now file connected kept l breaking).changes ≡ true
+  by_passes now file connected kept l (Some b) = one_passes _ [] (h.rows _ refl) refl
+  by_passes now file connected kept l None = cond_both _ no_break (breaks_to now file connected l _) (λ (b : Breaks). list_all p b.changes ≡ true) (λ _. refl) (λ _. to_passes now file connected l _)
+
+  pub lease_passes : (now : Moment) (file : ℕ) (f : FileView) (kept : ℕ) (l : LeaseRow) → list_all p (break_lease now file f kept l).changes ≡ true
+  unfolding break_lease
+  lease_passes now file f kept l = by_passes now file (connected_under f l.name) kept l l.breaking
+
+  first_passes : (now : Moment) (file : ℕ) (f : FileView) (kept : ℕ) (ls : List LeaseRow) → list_all p (break_first now file f kept ls).changes ≡ true
+  first_passes now file f kept [] = refl
+  first_passes now file f kept (l ∷ ls) = lease_passes now file f kept l
+
+  pub each_passes : (now : Moment) (file : ℕ) (f : FileView) (kept : ℕ) (names : List LeaseName) → list_all p (break_each now file f kept names).changes ≡ true
+  unfolding break_each
+  each_passes now file f kept [] = refl
+  each_passes now file f kept (name ∷ names) =
+      let first = break_first now file f kept (f.leases name) in
+      both_pass first.changes _ (first_passes now file f kept (f.leases name)) (each_passes now file (perform_all_in_file first.changes f) kept names)
+
+-- ---- who waits and who lives stays as it is
 
 -- the same who wait, and the same workers
 pub record IsSame (t u : Table) : Type 0 where

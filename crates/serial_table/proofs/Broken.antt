@@ -33,7 +33,7 @@ to_owner : (now : Moment) (file : ℕ) (connected : List OpenRow) (lease : Lease
 to_owner now file [] lease target = refl
 to_owner now file (first ∷ others) lease target = refl
 
-by_owner : (now : Moment) (file : ℕ) (connected : List OpenRow) (kept : ℕ) (lease : LeaseRow) (b : Option Breaking) → break_by now file connected kept lease b ≡ break_by_owner now file (first_owner connected) kept lease b
+pub by_owner : (now : Moment) (file : ℕ) (connected : List OpenRow) (kept : ℕ) (lease : LeaseRow) (b : Option Breaking) → break_by now file connected kept lease b ≡ break_by_owner now file (first_owner connected) kept lease b
 by_owner now file connected kept lease (Some breaking) = refl
 by_owner now file connected kept lease None = ap (cond (is_part_of lease.held.0 kept) no_break) (to_owner now file connected lease (bit_and lease.held.0 kept))
 

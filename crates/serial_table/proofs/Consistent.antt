@@ -57,118 +57,43 @@ module _ {X : Type 0} where
   any_more : (p : X → Bool) (xs ys : List X) → list_any p xs ≡ true → list_any p (xs ++ ys) ≡ true
   any_more p xs ys e = let o = one_of p xs e in any_of p (xs ++ ys) o.0 (old_in xs ys o.0 o.1) o.2
 
--- ---- a table of which one list is another
+-- ---- a table by its lists, and what is said of them while its workers stay; a change gives the lists that it alters, and what is said of these
 
-with_letters : (t : Table) (letters : List Post) → IsConsistent t → list_all (λ post. lives (view t) post.to) letters ≡ true → IsConsistent (record t { letters = letters })
-with_letters t letters k live = record {
-  ids_differ = k.ids_differ;
-  handles_differ = k.handles_differ;
-  opens_have_leases = k.opens_have_leases;
-  durable_are_leased = k.durable_are_leased;
-  marked_may_delete = k.marked_may_delete;
-  opens_last = k.opens_last;
-  owners_had = k.owners_had;
-  leases_differ = k.leases_differ;
-  leases_agree = k.leases_agree;
-  ranges_have_opens = k.ranges_have_opens;
-  holders_live = k.holders_live;
-  holds_agree = k.holds_agree;
-  waiters_live = k.waiters_live;
-  waits_differ = k.waits_differ;
-  receivers_live = live;
-  pids_differ = k.pids_differ;
-  pending_differ = k.pending_differ;
-}
+record Rows (t : Table) : Type 0 where
+  opens : List OpenRow
+  leases : List LeaseRow
+  ranges : List RangeRow
+  holds : List HoldRow
+  waiters : List WaiterRow
+  letters : List Post
+  pending : List ℕ
+  ids_differ : IsDistinct have_same_id opens
+  handles_differ : IsDistinct have_same_handle opens
+  opens_have_leases : list_all (has_its_lease leases) opens ≡ true
+  durable_are_leased : list_all is_leased_if_durable opens ≡ true
+  marked_may_delete : list_all may_delete_if_marked opens ≡ true
+  opens_last : list_all (lasts (view t)) opens ≡ true
+  owners_had : list_all (λ open_row. has_had (view t) open_row.owner) opens ≡ true
+  leases_differ : IsDistinct have_same_name leases
+  leases_agree : list_all (λ lease. states_agree lease.held.0 lease.breaking) leases ≡ true
+  ranges_have_opens : list_all (has_its_open opens) ranges ≡ true
+  holders_live : list_all (λ hold. lives (view t) hold.owner) holds ≡ true
+  holds_agree : IsDistinct cannot_both_hold holds
+  waiters_live : list_all (waits_among_living (view t)) waiters ≡ true
+  waits_differ : IsDistinct cannot_both_wait waiters
+  receivers_live : list_all (λ post. lives (view t) post.to) letters ≡ true
+  pids_differ : IsDistinct have_same_pid t.workers
+  pending_differ : IsDistinct nat_eq pending
 
-with_waiters : (t : Table) (waiters : List WaiterRow) → IsConsistent t → list_all (waits_among_living (view t)) waiters ≡ true → IsDistinct cannot_both_wait waiters
-    → IsConsistent (record t { waiters = waiters })
-with_waiters t waiters k live differ = record {
-  ids_differ = k.ids_differ;
-  handles_differ = k.handles_differ;
-  opens_have_leases = k.opens_have_leases;
-  durable_are_leased = k.durable_are_leased;
-  marked_may_delete = k.marked_may_delete;
-  opens_last = k.opens_last;
-  owners_had = k.owners_had;
-  leases_differ = k.leases_differ;
-  leases_agree = k.leases_agree;
-  ranges_have_opens = k.ranges_have_opens;
-  holders_live = k.holders_live;
-  holds_agree = k.holds_agree;
-  waiters_live = live;
-  waits_differ = differ;
-  receivers_live = k.receivers_live;
-  pids_differ = k.pids_differ;
-  pending_differ = k.pending_differ;
-}
-
-with_holds : (t : Table) (holds : List HoldRow) → IsConsistent t → list_all (λ hold. lives (view t) hold.owner) holds ≡ true → IsDistinct cannot_both_hold holds
-    → IsConsistent (record t { holds = holds })
-with_holds t holds k live agree = record {
-  ids_differ = k.ids_differ;
-  handles_differ = k.handles_differ;
-  opens_have_leases = k.opens_have_leases;
-  durable_are_leased = k.durable_are_leased;
-  marked_may_delete = k.marked_may_delete;
-  opens_last = k.opens_last;
-  owners_had = k.owners_had;
-  leases_differ = k.leases_differ;
-  leases_agree = k.leases_agree;
-  ranges_have_opens = k.ranges_have_opens;
-  holders_live = live;
-  holds_agree = agree;
-  waiters_live = k.waiters_live;
-  waits_differ = k.waits_differ;
-  receivers_live = k.receivers_live;
-  pids_differ = k.pids_differ;
-  pending_differ = k.pending_differ;
-}
-
-with_ranges : (t : Table) (ranges : List RangeRow) → IsConsistent t → list_all (has_its_open t.opens) ranges ≡ true → IsConsistent (record t { ranges = ranges })
-with_ranges t ranges k opens = record {
-  ids_differ = k.ids_differ;
-  handles_differ = k.handles_differ;
-  opens_have_leases = k.opens_have_leases;
-  durable_are_leased = k.durable_are_leased;
-  marked_may_delete = k.marked_may_delete;
-  opens_last = k.opens_last;
-  owners_had = k.owners_had;
-  leases_differ = k.leases_differ;
-  leases_agree = k.leases_agree;
-  ranges_have_opens = opens;
-  holders_live = k.holders_live;
-  holds_agree = k.holds_agree;
-  waiters_live = k.waiters_live;
-  waits_differ = k.waits_differ;
-  receivers_live = k.receivers_live;
-  pids_differ = k.pids_differ;
-  pending_differ = k.pending_differ;
-}
-
-with_leases : (t : Table) (leases : List LeaseRow) → IsConsistent t → list_all (has_its_lease leases) t.opens ≡ true → IsDistinct have_same_name leases
-    → list_all (λ lease. states_agree lease.held.0 lease.breaking) leases ≡ true → IsConsistent (record t { leases = leases })
-with_leases t leases k opens differ agree = record {
-  ids_differ = k.ids_differ;
-  handles_differ = k.handles_differ;
-  opens_have_leases = opens;
-  durable_are_leased = k.durable_are_leased;
-  marked_may_delete = k.marked_may_delete;
-  opens_last = k.opens_last;
-  owners_had = k.owners_had;
-  leases_differ = differ;
-  leases_agree = agree;
-  ranges_have_opens = k.ranges_have_opens;
-  holders_live = k.holders_live;
-  holds_agree = k.holds_agree;
-  waiters_live = k.waiters_live;
-  waits_differ = k.waits_differ;
-  receivers_live = k.receivers_live;
-  pids_differ = k.pids_differ;
-  pending_differ = k.pending_differ;
-}
-
-with_files : (t : Table) (files : List ℕ) → IsConsistent t → IsDistinct nat_eq files → IsConsistent (record t { pending = files })
-with_files t files k differ = record {
+abbrev rows_of : (t : Table) → IsConsistent t → Rows t
+rows_of t k = record {
+  opens = t.opens;
+  leases = t.leases;
+  ranges = t.ranges;
+  holds = t.holds;
+  waiters = t.waiters;
+  letters = t.letters;
+  pending = t.pending;
   ids_differ = k.ids_differ;
   handles_differ = k.handles_differ;
   opens_have_leases = k.opens_have_leases;
@@ -185,7 +110,31 @@ with_files t files k differ = record {
   waits_differ = k.waits_differ;
   receivers_live = k.receivers_live;
   pids_differ = k.pids_differ;
-  pending_differ = differ;
+  pending_differ = k.pending_differ;
+}
+
+abbrev with_rows : (t : Table) → Rows t → Table
+with_rows t r = record t { opens = r.opens; leases = r.leases; ranges = r.ranges; holds = r.holds; waiters = r.waiters; letters = r.letters; pending = r.pending }
+
+consistent : (t : Table) (r : Rows t) → IsConsistent (with_rows t r)
+consistent t r = record {
+  ids_differ = r.ids_differ;
+  handles_differ = r.handles_differ;
+  opens_have_leases = r.opens_have_leases;
+  durable_are_leased = r.durable_are_leased;
+  marked_may_delete = r.marked_may_delete;
+  opens_last = r.opens_last;
+  owners_had = r.owners_had;
+  leases_differ = r.leases_differ;
+  leases_agree = r.leases_agree;
+  ranges_have_opens = r.ranges_have_opens;
+  holders_live = r.holders_live;
+  holds_agree = r.holds_agree;
+  waiters_live = r.waiters_live;
+  waits_differ = r.waits_differ;
+  receivers_live = r.receivers_live;
+  pids_differ = r.pids_differ;
+  pending_differ = r.pending_differ;
 }
 
 -- ---- files that are to go
@@ -228,12 +177,15 @@ sets_lease : (file : ℕ) (name : LeaseName) (held : LeaseState) (breaking : Opt
     → IsConsistent (record t { leases = map (set_lease file name held breaking) t.leases })
 sets_lease file name held breaking t k fit =
     let f = set_lease file name held breaking in
-    with_leases t (map f t.leases) k
-    (all_weaker (has_its_lease t.leases) (has_its_lease (map f t.leases)) t.opens
-    (λ o i h. lease_mapped f (file-set_lease file name held breaking) (name-set_lease file name held breaking) t.leases o o.lease h) k.opens_have_leases)
-    (distinct_mapped have_same_name have_same_name have_same_name f t.leases
-    (λ a b i j e h. (λ i. same_name (name-set_lease file name held breaking a i) (name-set_lease file name held breaking b i)) ∙ e) k.leases_differ k.leases_differ)
-    (all_mapped (λ l. states_agree l.held.0 l.breaking) (λ l. states_agree l.held.0 l.breaking) f t.leases (λ l i h. states-set_lease file name held breaking l fit h) k.leases_agree)
+    let r = rows_of t k in
+    consistent t (record r {
+      leases = map f t.leases;
+      opens_have_leases = all_weaker (has_its_lease t.leases) (has_its_lease (map f t.leases)) t.opens
+          (λ o i h. lease_mapped f (file-set_lease file name held breaking) (name-set_lease file name held breaking) t.leases o o.lease h) k.opens_have_leases;
+      leases_differ = distinct_mapped have_same_name have_same_name have_same_name f t.leases
+          (λ a b i j e h. (λ i. same_name (name-set_lease file name held breaking a i) (name-set_lease file name held breaking b i)) ∙ e) k.leases_differ k.leases_differ;
+      leases_agree = all_mapped (λ l. states_agree l.held.0 l.breaking) (λ l. states_agree l.held.0 l.breaking) f t.leases (λ l i h. states-set_lease file name held breaking l fit h) k.leases_agree;
+    })
 
 -- ---- ranges
 
@@ -280,31 +232,25 @@ taken_all file id owner handle opens p h e =
 takes_over : (file : ℕ) (id : OpenId) (owner : Sid) (handle : ℕ) (t : Table) → IsConsistent t → lives (view t) owner ≡ true → list_any (is_of_handle owner handle) t.opens ≡ false
     → IsConsistent (record t { opens = map (new_owner file id owner handle) t.opens })
 unfolding new_owner
-takes_over file id owner handle t k live free = record {
-  ids_differ = distinct_mapped have_same_id have_same_id have_same_id f t.opens (λ a b i j e h. (λ i. same_id (id-new_owner file id owner handle a i) (id-new_owner file id owner handle b i)) ∙ e)
-      k.ids_differ k.ids_differ;
-  handles_differ = distinct_mapped have_same_id have_same_handle have_same_handle f t.opens
-      (λ a b i j e h. differ_taken file id owner handle a b (is_open file id a) (is_open file id b) refl refl (none_of (is_of_handle owner handle) t.opens free a i) (none_of (is_of_handle owner handle) t.opens free b j) e h)
-      k.ids_differ k.handles_differ;
-  opens_have_leases = taken_all file id owner handle t.opens (has_its_lease t.leases) (λ o e. e) k.opens_have_leases;
-  durable_are_leased = taken_all file id owner handle t.opens is_leased_if_durable (λ o e. e) k.durable_are_leased;
-  marked_may_delete = taken_all file id owner handle t.opens may_delete_if_marked (λ o e. e) k.marked_may_delete;
-  opens_last = taken_all file id owner handle t.opens (lasts (view t)) (λ o e. ap (λ b. b || is_durable o) live) k.opens_last;
-  owners_had = taken_all file id owner handle t.opens (λ (o : OpenRow). has_had (view t) o.owner) (λ o e. lives_had t.workers owner live) k.owners_had;
-  leases_differ = k.leases_differ;
-  leases_agree = k.leases_agree;
-  ranges_have_opens = all_weaker (has_its_open t.opens) (has_its_open (map f t.opens)) t.ranges
-      (λ range i e. let o = one_of (λ o. (o.file == range.file) && same_id o.id range.id) t.opens e in
-      any_of (λ o. (o.file == range.file) && same_id o.id range.id) (map f t.opens) (f o.0) (mapped_in f t.opens o.0 o.1)
-      ((λ i. (file-new_owner file id owner handle o.0 i == range.file) && same_id (id-new_owner file id owner handle o.0 i) range.id) ∙ o.2)) k.ranges_have_opens;
-  holders_live = k.holders_live;
-  holds_agree = k.holds_agree;
-  waiters_live = k.waiters_live;
-  waits_differ = k.waits_differ;
-  receivers_live = k.receivers_live;
-  pids_differ = k.pids_differ;
-  pending_differ = k.pending_differ;
-}
+takes_over file id owner handle t k live free =
+    let r = rows_of t k in
+    consistent t (record r {
+      opens = map f t.opens;
+      ids_differ = distinct_mapped have_same_id have_same_id have_same_id f t.opens (λ a b i j e h. (λ i. same_id (id-new_owner file id owner handle a i) (id-new_owner file id owner handle b i)) ∙ e)
+          k.ids_differ k.ids_differ;
+      handles_differ = distinct_mapped have_same_id have_same_handle have_same_handle f t.opens
+          (λ a b i j e h. differ_taken file id owner handle a b (is_open file id a) (is_open file id b) refl refl (none_of (is_of_handle owner handle) t.opens free a i) (none_of (is_of_handle owner handle) t.opens free b j) e h)
+          k.ids_differ k.handles_differ;
+      opens_have_leases = taken_all file id owner handle t.opens (has_its_lease t.leases) (λ o e. e) k.opens_have_leases;
+      durable_are_leased = taken_all file id owner handle t.opens is_leased_if_durable (λ o e. e) k.durable_are_leased;
+      marked_may_delete = taken_all file id owner handle t.opens may_delete_if_marked (λ o e. e) k.marked_may_delete;
+      opens_last = taken_all file id owner handle t.opens (lasts (view t)) (λ o e. ap (λ b. b || is_durable o) live) k.opens_last;
+      owners_had = taken_all file id owner handle t.opens (λ (o : OpenRow). has_had (view t) o.owner) (λ o e. lives_had t.workers owner live) k.owners_had;
+      ranges_have_opens = all_weaker (has_its_open t.opens) (has_its_open (map f t.opens)) t.ranges
+          (λ range i e. let o = one_of (λ o. (o.file == range.file) && same_id o.id range.id) t.opens e in
+          any_of (λ o. (o.file == range.file) && same_id o.id range.id) (map f t.opens) (f o.0) (mapped_in f t.opens o.0 o.1)
+          ((λ i. (file-new_owner file id owner handle o.0 i == range.file) && same_id (id-new_owner file id owner handle o.0 i) range.id) ∙ o.2)) k.ranges_have_opens;
+    })
   where
     f : OpenRow → OpenRow
     f = new_owner file id owner handle
@@ -360,12 +306,15 @@ holds_set key owner mode a b false false ea eb ma mb e = e
 sets_hold : (key : ℕ) (owner : Sid) (mode : Mode) (t : Table) → IsConsistent t → list_all (may_hold key owner mode) t.holds ≡ true → IsConsistent (record t { holds = map (set_hold key owner mode) t.holds })
 unfolding set_hold
 sets_hold key owner mode t k fit =
-    with_holds t (map (set_hold key owner mode) t.holds) k
-    (all_mapped (λ hold. lives (view t) hold.owner) (λ hold. lives (view t) hold.owner) (set_hold key owner mode) t.holds
-    (λ h i e. cond_both (is_hold key owner h) (record h { mode = mode }) h (λ (x : HoldRow). lives (view t) x.owner ≡ true) (λ _. e) (λ _. e)) k.holders_live)
-    (distinct_mapped cannot_both_hold cannot_both_hold cannot_both_hold (set_hold key owner mode) t.holds
-    (λ a b i j e h. holds_set key owner mode a b (is_hold key owner a) (is_hold key owner b) refl refl (each (may_hold key owner mode) t.holds fit a i) (each (may_hold key owner mode) t.holds fit b j) e)
-    k.holds_agree k.holds_agree)
+    let r = rows_of t k in
+    consistent t (record r {
+      holds = map (set_hold key owner mode) t.holds;
+      holders_live = all_mapped (λ hold. lives (view t) hold.owner) (λ hold. lives (view t) hold.owner) (set_hold key owner mode) t.holds
+          (λ h i e. cond_both (is_hold key owner h) (record h { mode = mode }) h (λ (x : HoldRow). lives (view t) x.owner ≡ true) (λ _. e) (λ _. e)) k.holders_live;
+      holds_agree = distinct_mapped cannot_both_hold cannot_both_hold cannot_both_hold (set_hold key owner mode) t.holds
+          (λ a b i j e h. holds_set key owner mode a b (is_hold key owner a) (is_hold key owner b) refl refl (each (may_hold key owner mode) t.holds fit a i) (each (may_hold key owner mode) t.holds fit b j) e)
+          k.holds_agree k.holds_agree;
+    })
 
 -- ---- the table settles
 
@@ -433,7 +382,12 @@ settles t k =
     let v = view t in
     let opens = filter (row_stays (λ file. true) v) t.opens in
     let f = lease_settles (λ file. true) v in
-    record {
+    let r = rows_of t k in
+    consistent t (record r {
+      opens = opens;
+      leases = settled t;
+      ranges = filter (range_stays (λ file. true) v) t.ranges;
+      pending = filter (pending_stays (λ file. true) v) t.pending;
       ids_differ = distinct_filtered have_same_id (row_stays (λ file. true) v) t.opens k.ids_differ;
       handles_differ = distinct_filtered have_same_handle (row_stays (λ file. true) v) t.opens k.handles_differ;
       opens_have_leases = all_each (has_its_lease (settled t)) opens
@@ -450,14 +404,8 @@ settles t k =
       ranges_have_opens = all_each (has_its_open opens) (filter (range_stays (λ file. true) v) t.ranges)
           (λ range i. let h = in_filter (range_stays (λ file. true) v) t.ranges range i in
           range_left (row_stays (λ file. true) v) range t.opens (λ o j e. range_with t range h.1 o j e) (each (has_its_open t.opens) t.ranges k.ranges_have_opens range h.0));
-      holders_live = k.holders_live;
-      holds_agree = k.holds_agree;
-      waiters_live = k.waiters_live;
-      waits_differ = k.waits_differ;
-      receivers_live = k.receivers_live;
-      pids_differ = k.pids_differ;
       pending_differ = distinct_filtered nat_eq (pending_stays (λ file. true) v) t.pending k.pending_differ;
-    }
+    })
 
 -- ---- sessions end and begin
 
@@ -542,72 +490,95 @@ begins_session after moment t k fit =
 -- ---- each change
 
 pub consistent-perform : (change : Change) (t : Table) → IsConsistent t → Fits change t → IsConsistent (perform change t)
-consistent-perform (c.AddOpen row) t k fit = record {
-  ids_differ = distinct_pushed have_same_id t.opens row k.ids_differ fit.id;
-  handles_differ = distinct_pushed have_same_handle t.opens row k.handles_differ fit.handle;
-  opens_have_leases = all_pushed (has_its_lease t.leases) t.opens row k.opens_have_leases fit.lease;
-  durable_are_leased = all_pushed is_leased_if_durable t.opens row k.durable_are_leased fit.leased;
-  marked_may_delete = all_pushed may_delete_if_marked t.opens row k.marked_may_delete fit.marked;
-  opens_last = all_pushed (lasts (view t)) t.opens row k.opens_last (ap (λ b. b || is_durable row) fit.owner);
-  owners_had = all_pushed (λ (o : OpenRow). has_had (view t) o.owner) t.opens row k.owners_had (lives_had t.workers row.owner fit.owner);
-  leases_differ = k.leases_differ;
-  leases_agree = k.leases_agree;
-  ranges_have_opens = all_weaker (has_its_open t.opens) (has_its_open (t.opens ++ row ∷ [])) t.ranges (λ range i e. any_more (λ o. (o.file == range.file) && same_id o.id range.id) t.opens (row ∷ []) e) k.ranges_have_opens;
-  holders_live = k.holders_live;
-  holds_agree = k.holds_agree;
-  waiters_live = k.waiters_live;
-  waits_differ = k.waits_differ;
-  receivers_live = k.receivers_live;
-  pids_differ = k.pids_differ;
-  pending_differ = k.pending_differ;
-}
-consistent-perform (c.DropOpen file id) t k fit = record {
-  ids_differ = distinct_filtered have_same_id (is_other_open file id) t.opens k.ids_differ;
-  handles_differ = distinct_filtered have_same_handle (is_other_open file id) t.opens k.handles_differ;
-  opens_have_leases = all_kept (has_its_lease t.leases) (is_other_open file id) t.opens k.opens_have_leases;
-  durable_are_leased = all_kept is_leased_if_durable (is_other_open file id) t.opens k.durable_are_leased;
-  marked_may_delete = all_kept may_delete_if_marked (is_other_open file id) t.opens k.marked_may_delete;
-  opens_last = all_kept (lasts (view t)) (is_other_open file id) t.opens k.opens_last;
-  owners_had = all_kept (λ (o : OpenRow). has_had (view t) o.owner) (is_other_open file id) t.opens k.owners_had;
-  leases_differ = k.leases_differ;
-  leases_agree = k.leases_agree;
-  ranges_have_opens = all_each (has_its_open (filter (is_other_open file id) t.opens)) (filter (is_other_range file id) t.ranges)
-      (λ range i. let h = in_filter (is_other_range file id) t.ranges range i in
-      range_left (is_other_open file id) range t.opens (λ o j e. other_open file id o range e ∙ h.1) (each (has_its_open t.opens) t.ranges k.ranges_have_opens range h.0));
-  holders_live = k.holders_live;
-  holds_agree = k.holds_agree;
-  waiters_live = k.waiters_live;
-  waits_differ = k.waits_differ;
-  receivers_live = k.receivers_live;
-  pids_differ = k.pids_differ;
-  pending_differ = k.pending_differ;
-}
+consistent-perform (c.AddOpen row) t k fit =
+    let r = rows_of t k in
+    consistent t (record r {
+      opens = t.opens ++ row ∷ [];
+      ids_differ = distinct_pushed have_same_id t.opens row k.ids_differ fit.id;
+      handles_differ = distinct_pushed have_same_handle t.opens row k.handles_differ fit.handle;
+      opens_have_leases = all_pushed (has_its_lease t.leases) t.opens row k.opens_have_leases fit.lease;
+      durable_are_leased = all_pushed is_leased_if_durable t.opens row k.durable_are_leased fit.leased;
+      marked_may_delete = all_pushed may_delete_if_marked t.opens row k.marked_may_delete fit.marked;
+      opens_last = all_pushed (lasts (view t)) t.opens row k.opens_last (ap (λ b. b || is_durable row) fit.owner);
+      owners_had = all_pushed (λ (o : OpenRow). has_had (view t) o.owner) t.opens row k.owners_had (lives_had t.workers row.owner fit.owner);
+      ranges_have_opens = all_weaker (has_its_open t.opens) (has_its_open (t.opens ++ row ∷ [])) t.ranges (λ range i e. any_more (λ o. (o.file == range.file) && same_id o.id range.id) t.opens (row ∷ []) e) k.ranges_have_opens;
+    })
+consistent-perform (c.DropOpen file id) t k fit =
+    let r = rows_of t k in
+    consistent t (record r {
+      opens = filter (is_other_open file id) t.opens;
+      ranges = filter (is_other_range file id) t.ranges;
+      ids_differ = distinct_filtered have_same_id (is_other_open file id) t.opens k.ids_differ;
+      handles_differ = distinct_filtered have_same_handle (is_other_open file id) t.opens k.handles_differ;
+      opens_have_leases = all_kept (has_its_lease t.leases) (is_other_open file id) t.opens k.opens_have_leases;
+      durable_are_leased = all_kept is_leased_if_durable (is_other_open file id) t.opens k.durable_are_leased;
+      marked_may_delete = all_kept may_delete_if_marked (is_other_open file id) t.opens k.marked_may_delete;
+      opens_last = all_kept (lasts (view t)) (is_other_open file id) t.opens k.opens_last;
+      owners_had = all_kept (λ (o : OpenRow). has_had (view t) o.owner) (is_other_open file id) t.opens k.owners_had;
+      ranges_have_opens = all_each (has_its_open (filter (is_other_open file id) t.opens)) (filter (is_other_range file id) t.ranges)
+          (λ range i. let h = in_filter (is_other_range file id) t.ranges range i in
+          range_left (is_other_open file id) range t.opens (λ o j e. other_open file id o range e ∙ h.1) (each (has_its_open t.opens) t.ranges k.ranges_have_opens range h.0));
+    })
 consistent-perform (c.TakeOver file id owner handle) t k fit =
     cond_both (list_any (is_of_handle owner handle) t.opens) t (record t { opens = map (new_owner file id owner handle) t.opens }) IsConsistent (λ _. k) (λ free. takes_over file id owner handle t k fit free)
 consistent-perform (c.AddLease lease) t k fit =
-    with_leases t (t.leases ++ lease ∷ []) k
-    (all_weaker (has_its_lease t.leases) (has_its_lease (t.leases ++ lease ∷ [])) t.opens (λ o i e. lease_more t.leases (lease ∷ []) o o.lease e) k.opens_have_leases)
-    (distinct_pushed have_same_name t.leases lease k.leases_differ fit.name) (all_pushed (λ l. states_agree l.held.0 l.breaking) t.leases lease k.leases_agree fit.states)
+    let r = rows_of t k in
+    consistent t (record r {
+      leases = t.leases ++ lease ∷ [];
+      opens_have_leases = all_weaker (has_its_lease t.leases) (has_its_lease (t.leases ++ lease ∷ [])) t.opens (λ o i e. lease_more t.leases (lease ∷ []) o o.lease e) k.opens_have_leases;
+      leases_differ = distinct_pushed have_same_name t.leases lease k.leases_differ fit.name;
+      leases_agree = all_pushed (λ l. states_agree l.held.0 l.breaking) t.leases lease k.leases_agree fit.states;
+    })
 consistent-perform (c.SetLease file name held breaking) t k fit = sets_lease file name held breaking t k fit
 consistent-perform (c.Acknowledge file name state) t k fit = sets_lease file name state None t k (ap (λ b. b && true) fit)
-consistent-perform (c.AddRange range) t k fit = with_ranges t (t.ranges ++ range ∷ []) k (all_pushed (has_its_open t.opens) t.ranges range k.ranges_have_opens fit)
-consistent-perform (c.DropRange range) t k fit = with_ranges t (drop_first (same_range range) t.ranges) k (all_dropped (has_its_open t.opens) (same_range range) t.ranges k.ranges_have_opens)
-consistent-perform (c.AddPending file) t k fit = with_files t (with_pending file t.pending) k (added_differ file t.pending k.pending_differ)
+consistent-perform (c.AddRange range) t k fit =
+    let r = rows_of t k in
+    consistent t (record r { ranges = t.ranges ++ range ∷ []; ranges_have_opens = all_pushed (has_its_open t.opens) t.ranges range k.ranges_have_opens fit })
+consistent-perform (c.DropRange range) t k fit =
+    let r = rows_of t k in
+    consistent t (record r { ranges = drop_first (same_range range) t.ranges; ranges_have_opens = all_dropped (has_its_open t.opens) (same_range range) t.ranges k.ranges_have_opens })
+consistent-perform (c.AddPending file) t k fit =
+    let r = rows_of t k in consistent t (record r { pending = with_pending file t.pending; pending_differ = added_differ file t.pending k.pending_differ })
 consistent-perform (c.DropPending file) t k fit =
-    with_files t (filter (λ pending. not (names_file file pending)) t.pending) k (distinct_filtered nat_eq (λ pending. not (names_file file pending)) t.pending k.pending_differ)
+    let r = rows_of t k in
+    let stays = λ (pending : ℕ). not (names_file file pending) in
+    consistent t (record r { pending = filter stays t.pending; pending_differ = distinct_filtered nat_eq stays t.pending k.pending_differ })
 consistent-perform (c.AddHold hold) t k fit =
-    with_holds t (t.holds ++ hold ∷ []) k (all_pushed (λ hold. lives (view t) hold.owner) t.holds hold k.holders_live fit.owner) (distinct_pushed cannot_both_hold t.holds hold k.holds_agree fit.others)
+    let r = rows_of t k in
+    consistent t (record r {
+      holds = t.holds ++ hold ∷ [];
+      holders_live = all_pushed (λ hold. lives (view t) hold.owner) t.holds hold k.holders_live fit.owner;
+      holds_agree = distinct_pushed cannot_both_hold t.holds hold k.holds_agree fit.others;
+    })
 consistent-perform (c.SetHold key owner mode) t k fit = sets_hold key owner mode t k fit
 consistent-perform (c.DropHold key owner) t k fit =
-    with_holds t (filter (λ hold. not (is_hold key owner hold)) t.holds) k (all_kept (λ hold. lives (view t) hold.owner) (λ hold. not (is_hold key owner hold)) t.holds k.holders_live)
-    (distinct_filtered cannot_both_hold (λ hold. not (is_hold key owner hold)) t.holds k.holds_agree)
+    let r = rows_of t k in
+    let stays = λ (hold : HoldRow). not (is_hold key owner hold) in
+    consistent t (record r {
+      holds = filter stays t.holds;
+      holders_live = all_kept (λ hold. lives (view t) hold.owner) stays t.holds k.holders_live;
+      holds_agree = distinct_filtered cannot_both_hold stays t.holds k.holds_agree;
+    })
 consistent-perform (c.AddWaiter waiter) t k fit =
-    with_waiters t (t.waiters ++ waiter ∷ []) k (all_pushed (waits_among_living (view t)) t.waiters waiter k.waiters_live fit.living) (distinct_pushed cannot_both_wait t.waiters waiter k.waits_differ fit.others)
+    let r = rows_of t k in
+    consistent t (record r {
+      waiters = t.waiters ++ waiter ∷ [];
+      waiters_live = all_pushed (waits_among_living (view t)) t.waiters waiter k.waiters_live fit.living;
+      waits_differ = distinct_pushed cannot_both_wait t.waiters waiter k.waits_differ fit.others;
+    })
 consistent-perform (c.DropWaiter sid call) t k fit =
-    with_waiters t (filter (λ w. is_other_wait sid call w.sid w.call) t.waiters) k (all_kept (waits_among_living (view t)) (λ w. is_other_wait sid call w.sid w.call) t.waiters k.waiters_live)
-    (distinct_filtered cannot_both_wait (λ w. is_other_wait sid call w.sid w.call) t.waiters k.waits_differ)
-consistent-perform (c.Send post) t k fit = with_letters t (t.letters ++ post ∷ []) k (all_pushed (λ post. lives (view t) post.to) t.letters post k.receivers_live fit)
-consistent-perform (c.TakeLetter to) t k fit = with_letters t (drop_first (is_to to) t.letters) k (all_dropped (λ post. lives (view t) post.to) (is_to to) t.letters k.receivers_live)
+    let r = rows_of t k in
+    let stays = λ (w : WaiterRow). is_other_wait sid call w.sid w.call in
+    consistent t (record r {
+      waiters = filter stays t.waiters;
+      waiters_live = all_kept (waits_among_living (view t)) stays t.waiters k.waiters_live;
+      waits_differ = distinct_filtered cannot_both_wait stays t.waiters k.waits_differ;
+    })
+consistent-perform (c.Send post) t k fit =
+    let r = rows_of t k in consistent t (record r { letters = t.letters ++ post ∷ []; receivers_live = all_pushed (λ post. lives (view t) post.to) t.letters post k.receivers_live fit })
+consistent-perform (c.TakeLetter to) t k fit =
+    let r = rows_of t k in
+    consistent t (record r { letters = drop_first (is_to to) t.letters; receivers_live = all_dropped (λ post. lives (view t) post.to) (is_to to) t.letters k.receivers_live })
 consistent-perform (c.EndSession sid moment) t k fit = ends_session sid moment t k fit
 consistent-perform (c.NextSession after moment) t k fit = begins_session after moment t k fit
 consistent-perform c.Settle t k fit = settles t k

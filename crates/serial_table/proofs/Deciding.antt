@@ -15,9 +15,15 @@ use Rattle.serial_table.specs.Decision.{waits_no_more}
 use Rattle.serial_table.specs.Session.{end_of_session}
 use Rattle.serial_table.specs.InPlace.{is_made, IsEnough, AreEnough}
 use Rattle.serial_table.proofs.Concluding.{PassesFinishing, no_more_all}
+use Rattle.serial_table.proofs.SameWorkers.{keeps_workers}
 
 pub made_waits : PassesFinishing is_made
 made_waits = record { comes = λ _. refl; goes = λ _ _. refl; sent = λ _. refl }
+
+-- what keeps the workers begins no session
+pub kept_made : (change : Change) → keeps_workers change ≡ true → is_made change ≡ true
+kept_made (c.NextSession sid moment) e = absurd cc
+kept_made _ e = refl
 
 pub dying_made : (v : View) (sid : Sid) (moment : Moment) → list_all is_made (end_of_session v sid moment []).changes ≡ true
 unfolding end_of_session

@@ -177,8 +177,7 @@ after_all-settled setup t (entry ∷ history) s = after_all-settled setup (after
 
 -- ---- what the code knows of a call behind what expires
 
--- behind a copy at which leases have expired
-pub behind_copy : (setup : Setup) (t u : Table) (caller : Caller) (call : Call) → u ≡ behind setup t caller call
+behind_copy : (setup : Setup) (t u : Table) (caller : Caller) (call : Call) → u ≡ behind setup t caller call
     → perform_all (outcome setup (view t) caller call).changes t ≡ perform_all (conclude (view u) (decide setup (view u) caller call)).changes u
 behind_copy setup t u caller call e = outcome_table setup t caller call ∙ ap (λ (w : Table). perform_all (conclude (view w) (decide setup (view w) caller call)).changes w) (sym e)
 
@@ -186,7 +185,7 @@ pub behind_copy_reply : (setup : Setup) (t u : Table) (caller : Caller) (call : 
 unfolding conclude
 behind_copy_reply setup t u caller call e = behind_reply (expired_by setup (view t) caller call) setup t caller call ∙ ap (λ (w : Table). (decide setup (view w) caller call).reply) (sym e)
 
-pub behind_copy_posts : (setup : Setup) (t u : Table) (caller : Caller) (call : Call) → u ≡ behind setup t caller call
+behind_copy_posts : (setup : Setup) (t u : Table) (caller : Caller) (call : Call) → u ≡ behind setup t caller call
     → (outcome setup (view t) caller call).posts ≡ (conclude (view u) (decide setup (view u) caller call)).posts
 behind_copy_posts setup t u caller call e = behind_posts (expired_by setup (view t) caller call) setup t caller call ∙ ap (λ (w : Table). (conclude (view w) (decide setup (view w) caller call)).posts) (sym e)
 
@@ -194,17 +193,30 @@ behind_copy_posts setup t u caller call e = behind_posts (expired_by setup (view
 pub itself_behind : (setup : Setup) (t : Table) (caller : Caller) (call : Call) → expired_by setup (view t) caller call ≡ [] → t ≡ behind setup t caller call
 itself_behind setup t caller call none = sym (ap (λ cs. perform_all cs t) none)
 
-pub copy_is : (setup : Setup) (t : Table) (caller : Caller) (call : Call) (o : Option Table) (u : Table) → o ≡ Some u → IfSome o (λ copy. copy ≡ behind setup t caller call) → u ≡ behind setup t caller call
-copy_is setup t caller call o u e is = subst (λ o. IfSome o (λ copy. copy ≡ behind setup t caller call)) e is
+-- what is known of the table at which the call is decided
+pub record IsBehind (setup : Setup) (t u : Table) (caller : Caller) (call : Call) : Type 0 where
+  pub settled : settle t ≡ t → settle u ≡ u
+  pub lives : lives (view t) caller.sid ≡ true → lives (view u) caller.sid ≡ true
+  pub changed : perform_all (outcome setup (view t) caller call).changes t ≡ perform_all (conclude (view u) (decide setup (view u) caller call)).changes u
+  pub reply : (outcome setup (view t) caller call).reply ≡ (decide setup (view u) caller call).reply
+  pub posts : (outcome setup (view t) caller call).posts ≡ (conclude (view u) (decide setup (view u) caller call)).posts
 
-pub copy_settled : (setup : Setup) (t u : Table) (caller : Caller) (call : Call) → u ≡ behind setup t caller call → settle t ≡ t → settle u ≡ u
-copy_settled setup t u caller call is s = ap settle is ∙ expired_settled setup t caller call s ∙ sym is
+is_behind : (setup : Setup) (t u : Table) (caller : Caller) (call : Call) → u ≡ behind setup t caller call → IsBehind setup t u caller call
+is_behind setup t u caller call is = record {
+  settled = λ s. ap settle is ∙ expired_settled setup t caller call s ∙ sym is;
+  lives = λ alive. ap (λ (w : Table). lives (view w) caller.sid) is ∙ lives_behind setup t caller call alive;
+  changed = behind_copy setup t u caller call is;
+  reply = behind_copy_reply setup t u caller call is;
+  posts = behind_copy_posts setup t u caller call is;
+}
 
-pub copy_lives : (setup : Setup) (t u : Table) (caller : Caller) (call : Call) → u ≡ behind setup t caller call → lives (view t) caller.sid ≡ true → lives (view u) caller.sid ≡ true
-copy_lives setup t u caller call is alive = ap (λ (w : Table). lives (view w) caller.sid) is ∙ lives_behind setup t caller call alive
+-- a copy at which leases have expired
+pub copy_is_behind : (setup : Setup) (t : Table) (caller : Caller) (call : Call) (o : Option Table) (u : Table) → o ≡ Some u → IfSome o (λ copy. copy ≡ behind setup t caller call) → IsBehind setup t u caller call
+copy_is_behind setup t caller call o u e is = is_behind setup t u caller call (subst (λ o. IfSome o (λ copy. copy ≡ behind setup t caller call)) e is)
 
-pub no_copy_is : (setup : Setup) (t : Table) (caller : Caller) (call : Call) (o : Option Table) → o ≡ None → IfNone o (expired_by setup (view t) caller call ≡ []) → t ≡ behind setup t caller call
-no_copy_is setup t caller call o e none = itself_behind setup t caller call (subst (λ o. IfNone o (expired_by setup (view t) caller call ≡ [])) e none)
+-- the table itself, where none expires
+pub itself_is_behind : (setup : Setup) (t : Table) (caller : Caller) (call : Call) (o : Option Table) → o ≡ None → IfNone o (expired_by setup (view t) caller call ≡ []) → IsBehind setup t t caller call
+itself_is_behind setup t caller call o e none = is_behind setup t t caller call (itself_behind setup t caller call (subst (λ o. IfNone o (expired_by setup (view t) caller call ≡ [])) e none))
 
 -- a call is carried out, or refused
 pub settled_either : {V E : Type 0} (r : Result V E) (d : Decision) (t next : Table) → OnOk r (next ≡ perform_all (conclude (view t) d).changes t) → OnErr r (next ≡ t) → settle t ≡ t → settle next ≡ next

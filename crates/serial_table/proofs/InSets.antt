@@ -24,7 +24,7 @@ use Rattle.serial_table.specs.declared.rows.EndedRow.{EndedRow}
 use Rattle.serial_table.specs.declared.table.Table.{Table}
 use Rattle.serial_table.specs.declared.change.Change.{Change}
 use Rattle.serial_table.specs.declared.change.Change.TheVariants as c
-use Rattle.serial_table.specs.Lists.{drop_first}
+use Rattle.serial_table.specs.History.{start}
 use Rattle.serial_table.specs.View.{view, lives, has_pid, is_of_handle, is_to, is_end_of, names_file}
 use Rattle.serial_table.specs.File.{FileView, file_view, is_under}
 use Rattle.serial_table.specs.Settle.{settle_where, broken_to_needed, settled_lease, row_stays, range_stays, lease_settles, lease_stays, pending_stays}
@@ -34,27 +34,77 @@ use Rattle.serial_table.specs.Sound.{Fits, AllFit}
 use Rattle.serial_table.specs.InSets.{IsPid, IsSid, IsFileNumber, IsOpenRow, IsLeaseRow, IsBreaking, IsRangeRow, IsHoldRow, IsWaiterRow, IsPost, IsWorkerRow, IsEndedRow, names_worker, ended_sessions, ended_count, IsInSets, Brings, AllBring}
 use Rattle.serial_table.proofs.Filters.{find-map, filter_one_out}
 use Rattle.serial_table.proofs.Views.{pid-end_session, pid-begin_session}
-use Rattle.serial_table.proofs.Members.{all_of, all_by, none_of, some_same, in_filter, in_drop, found_in}
+use Rattle.serial_table.proofs.Listed.{Listed, more, kept, left, changed}
+use Rattle.serial_table.proofs.Members.{all_of, all_by, none_of, some_same, found_in}
 use Rattle.serial_table.proofs.SameIds.{eqb-flip}
 use Rattle.serial_table.proofs.Living.{row_of}
 use Rattle.serial_table.proofs.Fitting.{kept_along}
 
--- ---- lists whose rows lie in their sets
+-- ---- a table by its lists, each with what says that it lies in its sets; a change gives the lists that it alters
 
-module _ {X : Type 0} (P : X → Type 0) where
-  all_more : (xs : List X) (x : X) → AllByRecursion P xs → P x → AllByRecursion P (xs ++ x ∷ [])
-  all_more [] x all h = (h, tt)
-  all_more (y ∷ ys) x all h = (all.0, all_more ys x all.1 h)
+-- the sessions of a pid among those that have ended
+abbrev sessions_in : List EndedRow → ℕ → List ℕ
+sessions_in ended pid = map (λ (row : EndedRow). row.sid.session) (filter (is_end_of pid) ended)
 
-  all_kept : (p : X → Bool) (xs : List X) → AllByRecursion P xs → AllByRecursion P (filter p xs)
-  all_kept p xs all = all_by P (filter p xs) (λ x i. all_of P xs all x (in_filter p xs x i).0)
+record Parts (setup : Setup) : Type 0 where
+  opens : Listed (IsOpenRow setup)
+  leases : Listed (IsLeaseRow setup)
+  ranges : Listed (IsRangeRow setup)
+  holds : Listed (IsHoldRow setup)
+  waiters : Listed (IsWaiterRow setup)
+  letters : Listed (IsPost setup)
+  workers : Listed (IsWorkerRow setup)
+  all_workers : map names_worker workers.rows ≡ map names_worker (start setup).workers
+  ended : Listed (IsEndedRow setup)
+  ended_in_order : (pid : ℕ) → CountsFrom 1 (sessions_in ended.rows pid)
+  ended_all : (pid : ℕ) → IfSome (find (has_pid pid) workers.rows) (λ worker. length (sessions_in ended.rows pid) ≡ ended_count worker)
+  pending : Listed (IsFileNumber setup)
 
-  all_left : (p : X → Bool) (xs : List X) → AllByRecursion P xs → AllByRecursion P (drop_first p xs)
-  all_left p xs all = all_by P (drop_first p xs) (λ x i. all_of P xs all x (in_drop p xs x i))
+module _ {setup : Setup} where
+  abbrev parts : (t : Table) → IsInSets setup t → Parts setup
+  parts t k = record {
+    opens = record { rows = t.opens; each = all_of (IsOpenRow setup) t.opens k.opens };
+    leases = record { rows = t.leases; each = all_of (IsLeaseRow setup) t.leases k.leases };
+    ranges = record { rows = t.ranges; each = all_of (IsRangeRow setup) t.ranges k.ranges };
+    holds = record { rows = t.holds; each = all_of (IsHoldRow setup) t.holds k.holds };
+    waiters = record { rows = t.waiters; each = all_of (IsWaiterRow setup) t.waiters k.waiters };
+    letters = record { rows = t.letters; each = all_of (IsPost setup) t.letters k.letters };
+    workers = record { rows = t.workers; each = all_of (IsWorkerRow setup) t.workers k.workers };
+    all_workers = k.all_workers;
+    ended = record { rows = t.ended; each = all_of (IsEndedRow setup) t.ended k.ended };
+    ended_in_order = k.ended_in_order;
+    ended_all = k.ended_all;
+    pending = record { rows = t.pending; each = all_of (IsFileNumber setup) t.pending k.pending };
+  }
 
-  all_changed : (f : X → X) → ((x : X) → P x → P (f x)) → (xs : List X) → AllByRecursion P xs → AllByRecursion P (map f xs)
-  all_changed f h [] all = tt
-  all_changed f h (x ∷ xs) all = (h x all.0, all_changed f h xs all.1)
+  abbrev table_of : Parts setup → Table
+  table_of p = record {
+    opens = p.opens.rows;
+    leases = p.leases.rows;
+    ranges = p.ranges.rows;
+    holds = p.holds.rows;
+    waiters = p.waiters.rows;
+    letters = p.letters.rows;
+    workers = p.workers.rows;
+    ended = p.ended.rows;
+    pending = p.pending.rows;
+  }
+
+  in_sets : (p : Parts setup) → IsInSets setup (table_of p)
+  in_sets p = record {
+    opens = all_by (IsOpenRow setup) p.opens.rows p.opens.each;
+    leases = all_by (IsLeaseRow setup) p.leases.rows p.leases.each;
+    ranges = all_by (IsRangeRow setup) p.ranges.rows p.ranges.each;
+    holds = all_by (IsHoldRow setup) p.holds.rows p.holds.each;
+    waiters = all_by (IsWaiterRow setup) p.waiters.rows p.waiters.each;
+    letters = all_by (IsPost setup) p.letters.rows p.letters.each;
+    workers = all_by (IsWorkerRow setup) p.workers.rows p.workers.each;
+    all_workers = p.all_workers;
+    ended = all_by (IsEndedRow setup) p.ended.rows p.ended.each;
+    ended_in_order = p.ended_in_order;
+    ended_all = p.ended_all;
+    pending = all_by (IsFileNumber setup) p.pending.rows p.pending.each;
+  }
 
 -- ---- who lives is a session of a declared worker
 
@@ -127,10 +177,10 @@ counts_more low [] n counts e = (let f : n ≡ low + 0 = e in omega arith, tt)
 counts_more low (m ∷ ms) n counts e = (counts.0, counts_more (low + 1) ms n counts.1 (let f : n ≡ low + suc (length ms) = e in omega arith))
 
 -- one more row of another pid changes nothing, and one of this pid stands at the end
-ended_other : (t : Table) (row : EndedRow) (pid : ℕ) → is_end_of pid row ≡ false → map (λ (r : EndedRow). r.sid.session) (filter (is_end_of pid) (t.ended ++ row ∷ [])) ≡ ended_sessions t pid
+ended_other : (t : Table) (row : EndedRow) (pid : ℕ) → is_end_of pid row ≡ false → sessions_in (t.ended ++ row ∷ []) pid ≡ ended_sessions t pid
 ended_other t row pid e = ap (map (λ (r : EndedRow). r.sid.session)) (filter_one_out (is_end_of pid) row t.ended e)
 
-ended_own : (t : Table) (row : EndedRow) (pid : ℕ) → is_end_of pid row ≡ true → map (λ (r : EndedRow). r.sid.session) (filter (is_end_of pid) (t.ended ++ row ∷ [])) ≡ ended_sessions t pid ++ row.sid.session ∷ []
+ended_own : (t : Table) (row : EndedRow) (pid : ℕ) → is_end_of pid row ≡ true → sessions_in (t.ended ++ row ∷ []) pid ≡ ended_sessions t pid ++ row.sid.session ∷ []
 ended_own t row pid e =
     ap (map (λ (r : EndedRow). r.sid.session)) (filter-append (is_end_of pid) t.ended (row ∷ []) ∙ ap (λ b. filter (is_end_of pid) t.ended ++ cond b (row ∷ []) []) e)
     ∙ map-append (λ (r : EndedRow). r.sid.session) (filter (is_end_of pid) t.ended) (row ∷ [])
@@ -147,7 +197,7 @@ ending_number setup t sid k e =
     omega arith
 
 order_ends : (setup : Setup) (t : Table) (sid : Sid) (moment : Moment) → IsInSets setup t → lives (view t) sid ≡ true → (pid : ℕ) (b : Bool) → is_end_of pid (end_at sid moment) ≡ b
-    → CountsFrom 1 (map (λ (r : EndedRow). r.sid.session) (filter (is_end_of pid) (t.ended ++ end_at sid moment ∷ [])))
+    → CountsFrom 1 (sessions_in (t.ended ++ end_at sid moment ∷ []) pid)
 order_ends setup t sid moment k live pid true e =
     subst (CountsFrom 1) (sym (ended_own t (end_at sid moment) pid e))
     (counts_more 1 (ended_sessions t pid) sid.session (k.ended_in_order pid) (ending_number setup t sid k live ∙ ap (λ p. 1 + length (ended_sessions t p)) (eqb-true sid.pid pid e)))
@@ -166,7 +216,7 @@ other_count sid w n e same =
 
 counted_ends : (setup : Setup) (t : Table) (sid : Sid) (moment : Moment) → IsInSets setup t → lives (view t) sid ≡ true → (pid : ℕ) (b : Bool) → is_end_of pid (end_at sid moment) ≡ b
     → (o : Option WorkerRow) → find (has_pid pid) t.workers ≡ o
-    → IfSome (option_map (end_session sid) o) (λ w. length (map (λ (r : EndedRow). r.sid.session) (filter (is_end_of pid) (t.ended ++ end_at sid moment ∷ []))) ≡ ended_count w)
+    → IfSome (option_map (end_session sid) o) (λ w. length (sessions_in (t.ended ++ end_at sid moment ∷ []) pid) ≡ ended_count w)
 counted_ends setup t sid moment k live pid b e None f = tt
 counted_ends setup t sid moment k live pid true e (Some w) f =
     let row = row_of t.workers sid live in
@@ -177,14 +227,14 @@ counted_ends setup t sid moment k live pid true e (Some w) f =
     let number : sid.session ≡ 1 + length (ended_sessions t sid.pid) = ending_number setup t sid k live in
     let at : length (ended_sessions t sid.pid) ≡ length (ended_sessions t pid) = ap (λ p. length (ended_sessions t p)) (eqb-true sid.pid pid e) in
     let session : w.session ≡ sid.session = ap (λ (x : WorkerRow). x.session) (sym same) ∙ row.1.session in
-    let more : length (map (λ (r : EndedRow). r.sid.session) (filter (is_end_of pid) (t.ended ++ end_at sid moment ∷ []))) ≡ length (ended_sessions t pid) + 1 =
+    let more : length (sessions_in (t.ended ++ end_at sid moment ∷ []) pid) ≡ length (ended_sessions t pid) + 1 =
     ap length (ended_own t (end_at sid moment) pid e) ∙ length-append (ended_sessions t pid) (sid.session ∷ []) in
-    dead_count sid w (length (map (λ (r : EndedRow). r.sid.session) (filter (is_end_of pid) (t.ended ++ end_at sid moment ∷ [])))) own (omega arith)
+    dead_count sid w (length (sessions_in (t.ended ++ end_at sid moment ∷ []) pid)) own (omega arith)
 counted_ends setup t sid moment k live pid false e (Some w) f =
     let here = (found_in (has_pid pid) t.workers w f).1 in
     let other : (w.pid == sid.pid) ≡ false = ap (λ p. p == sid.pid) (eqb-true w.pid pid here) ∙ eqb-flip pid sid.pid ∙ e in
     let count : length (ended_sessions t pid) ≡ ended_count w = subst (λ o. IfSome o (λ worker. length (ended_sessions t pid) ≡ ended_count worker)) f (k.ended_all pid) in
-    other_count sid w (length (map (λ (r : EndedRow). r.sid.session) (filter (is_end_of pid) (t.ended ++ end_at sid moment ∷ [])))) other (ap length (ended_other t (end_at sid moment) pid e) ∙ count)
+    other_count sid w (length (sessions_in (t.ended ++ end_at sid moment ∷ []) pid)) other (ap length (ended_other t (end_at sid moment) pid e) ∙ count)
 
 begun_count : (sid : Sid) (moment : Moment) (w : WorkerRow) (n : ℕ) → ((w.pid == sid.pid) ≡ true → w.alive ≡ false) → n ≡ ended_count w → n ≡ ended_count (begin_session sid moment w)
 unfolding begin_session
@@ -208,294 +258,69 @@ counted_begins setup t own moment k fit pid (Some w) f =
 module _ (setup : Setup) where
   pub in_sets-perform : (change : Change) (t : Table) → IsInSets setup t → Fits change t → Brings setup change t → IsInSets setup (perform change t)
   unfolding settle_where with_pending
-  in_sets-perform (c.AddOpen o) t k fit own = record {
-    opens = all_more (IsOpenRow setup) t.opens o k.opens own;
-    leases = k.leases;
-    ranges = k.ranges;
-    holds = k.holds;
-    waiters = k.waiters;
-    letters = k.letters;
-    workers = k.workers;
-    all_workers = k.all_workers;
-    ended = k.ended;
-    ended_in_order = k.ended_in_order;
-    ended_all = k.ended_all;
-    pending = k.pending;
-  }
-  in_sets-perform (c.DropOpen file id) t k fit own = record {
-    opens = all_kept (IsOpenRow setup) (is_other_open file id) t.opens k.opens;
-    ranges = all_kept (IsRangeRow setup) (is_other_range file id) t.ranges k.ranges;
-    leases = k.leases;
-    holds = k.holds;
-    waiters = k.waiters;
-    letters = k.letters;
-    workers = k.workers;
-    all_workers = k.all_workers;
-    ended = k.ended;
-    ended_in_order = k.ended_in_order;
-    ended_all = k.ended_all;
-    pending = k.pending;
-  }
+  in_sets-perform (c.AddOpen o) t k fit own = let p = parts t k in in_sets (record p { opens = more p.opens o own })
+  in_sets-perform (c.DropOpen file id) t k fit own =
+      let p = parts t k in in_sets (record p { opens = kept (is_other_open file id) p.opens; ranges = kept (is_other_range file id) p.ranges })
   in_sets-perform (c.TakeOver file id owner handle) t k fit own =
-      cond_both (list_any (is_of_handle owner handle) t.opens) t (record t { opens = map (new_owner file id owner handle) t.opens }) (IsInSets setup) (λ _. k) (λ _. record {
-        opens = all_changed (IsOpenRow setup) (new_owner file id owner handle) (open_taken setup file id owner handle (sid_of setup t owner k.workers fit) own) t.opens k.opens;
-        leases = k.leases;
-        ranges = k.ranges;
-        holds = k.holds;
-        waiters = k.waiters;
-        letters = k.letters;
-        workers = k.workers;
-        all_workers = k.all_workers;
-        ended = k.ended;
-        ended_in_order = k.ended_in_order;
-        ended_all = k.ended_all;
-        pending = k.pending;
-      })
-  in_sets-perform (c.AddLease lease) t k fit own = record {
-    leases = all_more (IsLeaseRow setup) t.leases lease k.leases own;
-    opens = k.opens;
-    ranges = k.ranges;
-    holds = k.holds;
-    waiters = k.waiters;
-    letters = k.letters;
-    workers = k.workers;
-    all_workers = k.all_workers;
-    ended = k.ended;
-    ended_in_order = k.ended_in_order;
-    ended_all = k.ended_all;
-    pending = k.pending;
-  }
-  in_sets-perform (c.SetLease file name held breaking) t k fit own = record {
-    leases = all_changed (IsLeaseRow setup) (set_lease file name held breaking) (lease_set setup file name held breaking own.0 own.1) t.leases k.leases;
-    opens = k.opens;
-    ranges = k.ranges;
-    holds = k.holds;
-    waiters = k.waiters;
-    letters = k.letters;
-    workers = k.workers;
-    all_workers = k.all_workers;
-    ended = k.ended;
-    ended_in_order = k.ended_in_order;
-    ended_all = k.ended_all;
-    pending = k.pending;
-  }
-  in_sets-perform (c.Acknowledge file name state) t k fit own = record {
-    leases = all_changed (IsLeaseRow setup) (set_lease file name state None) (lease_set setup file name state None fit tt) t.leases k.leases;
-    opens = k.opens;
-    ranges = k.ranges;
-    holds = k.holds;
-    waiters = k.waiters;
-    letters = k.letters;
-    workers = k.workers;
-    all_workers = k.all_workers;
-    ended = k.ended;
-    ended_in_order = k.ended_in_order;
-    ended_all = k.ended_all;
-    pending = k.pending;
-  }
-  in_sets-perform (c.AddRange range) t k fit own = record {
-    ranges = all_more (IsRangeRow setup) t.ranges range k.ranges own;
-    opens = k.opens;
-    leases = k.leases;
-    holds = k.holds;
-    waiters = k.waiters;
-    letters = k.letters;
-    workers = k.workers;
-    all_workers = k.all_workers;
-    ended = k.ended;
-    ended_in_order = k.ended_in_order;
-    ended_all = k.ended_all;
-    pending = k.pending;
-  }
-  in_sets-perform (c.DropRange range) t k fit own = record {
-    ranges = all_left (IsRangeRow setup) (same_range range) t.ranges k.ranges;
-    opens = k.opens;
-    leases = k.leases;
-    holds = k.holds;
-    waiters = k.waiters;
-    letters = k.letters;
-    workers = k.workers;
-    all_workers = k.all_workers;
-    ended = k.ended;
-    ended_in_order = k.ended_in_order;
-    ended_all = k.ended_all;
-    pending = k.pending;
-  }
-  in_sets-perform (c.AddPending file) t k fit own = record {
-    pending = cond_both (list_any (names_file file) t.pending) t.pending (t.pending ++ file ∷ []) (AllByRecursion (IsFileNumber setup)) (λ _. k.pending) (λ _. all_more (IsFileNumber setup) t.pending file k.pending own);
-    opens = k.opens;
-    leases = k.leases;
-    ranges = k.ranges;
-    holds = k.holds;
-    waiters = k.waiters;
-    letters = k.letters;
-    workers = k.workers;
-    all_workers = k.all_workers;
-    ended = k.ended;
-    ended_in_order = k.ended_in_order;
-    ended_all = k.ended_all;
-  }
-  in_sets-perform (c.DropPending file) t k fit own = record {
-    pending = all_kept (IsFileNumber setup) (λ pending. not (names_file file pending)) t.pending k.pending;
-    opens = k.opens;
-    leases = k.leases;
-    ranges = k.ranges;
-    holds = k.holds;
-    waiters = k.waiters;
-    letters = k.letters;
-    workers = k.workers;
-    all_workers = k.all_workers;
-    ended = k.ended;
-    ended_in_order = k.ended_in_order;
-    ended_all = k.ended_all;
-  }
-  in_sets-perform (c.AddHold hold) t k fit own = record {
-    holds = all_more (IsHoldRow setup) t.holds hold k.holds (record { owner = sid_of setup t hold.owner k.workers fit.owner; key = own });
-    opens = k.opens;
-    leases = k.leases;
-    ranges = k.ranges;
-    waiters = k.waiters;
-    letters = k.letters;
-    workers = k.workers;
-    all_workers = k.all_workers;
-    ended = k.ended;
-    ended_in_order = k.ended_in_order;
-    ended_all = k.ended_all;
-    pending = k.pending;
-  }
-  in_sets-perform (c.SetHold key owner mode) t k fit own = record {
-    holds = all_changed (IsHoldRow setup) (set_hold key owner mode) (hold_set setup key owner mode) t.holds k.holds;
-    opens = k.opens;
-    leases = k.leases;
-    ranges = k.ranges;
-    waiters = k.waiters;
-    letters = k.letters;
-    workers = k.workers;
-    all_workers = k.all_workers;
-    ended = k.ended;
-    ended_in_order = k.ended_in_order;
-    ended_all = k.ended_all;
-    pending = k.pending;
-  }
-  in_sets-perform (c.DropHold key owner) t k fit own = record {
-    holds = all_kept (IsHoldRow setup) (λ hold. not (is_hold key owner hold)) t.holds k.holds;
-    opens = k.opens;
-    leases = k.leases;
-    ranges = k.ranges;
-    waiters = k.waiters;
-    letters = k.letters;
-    workers = k.workers;
-    all_workers = k.all_workers;
-    ended = k.ended;
-    ended_in_order = k.ended_in_order;
-    ended_all = k.ended_all;
-    pending = k.pending;
-  }
+      let p = parts t k in
+      cond_both (list_any (is_of_handle owner handle) t.opens) t (record t { opens = map (new_owner file id owner handle) t.opens }) (IsInSets setup) (λ _. k)
+      (λ _. in_sets (record p { opens = changed (new_owner file id owner handle) (open_taken setup file id owner handle (sid_of setup t owner k.workers fit) own) p.opens }))
+  in_sets-perform (c.AddLease lease) t k fit own = let p = parts t k in in_sets (record p { leases = more p.leases lease own })
+  in_sets-perform (c.SetLease file name held breaking) t k fit own =
+      let p = parts t k in in_sets (record p { leases = changed (set_lease file name held breaking) (lease_set setup file name held breaking own.0 own.1) p.leases })
+  in_sets-perform (c.Acknowledge file name state) t k fit own =
+      let p = parts t k in in_sets (record p { leases = changed (set_lease file name state None) (lease_set setup file name state None fit tt) p.leases })
+  in_sets-perform (c.AddRange range) t k fit own = let p = parts t k in in_sets (record p { ranges = more p.ranges range own })
+  in_sets-perform (c.DropRange range) t k fit own = let p = parts t k in in_sets (record p { ranges = left (same_range range) p.ranges })
+  in_sets-perform (c.AddPending file) t k fit own =
+      let p = parts t k in
+      cond_both (list_any (names_file file) t.pending) t.pending (t.pending ++ file ∷ []) (λ files. IsInSets setup (record t { pending = files })) (λ _. k)
+      (λ _. in_sets (record p { pending = more p.pending file own }))
+  in_sets-perform (c.DropPending file) t k fit own = let p = parts t k in in_sets (record p { pending = kept (λ pending. not (names_file file pending)) p.pending })
+  in_sets-perform (c.AddHold hold) t k fit own =
+      let p = parts t k in in_sets (record p { holds = more p.holds hold (record { owner = sid_of setup t hold.owner k.workers fit.owner; key = own }) })
+  in_sets-perform (c.SetHold key owner mode) t k fit own = let p = parts t k in in_sets (record p { holds = changed (set_hold key owner mode) (hold_set setup key owner mode) p.holds })
+  in_sets-perform (c.DropHold key owner) t k fit own = let p = parts t k in in_sets (record p { holds = kept (λ hold. not (is_hold key owner hold)) p.holds })
   in_sets-perform (c.AddWaiter w) t k fit own =
+      let p = parts t k in
       let both = and_parts (lives (view t) w.sid) (option_map_or (lives (view t)) w.blocker true) fit.living in
-      record {
-        waiters = all_more (IsWaiterRow setup) t.waiters w k.waiters (record { sid = sid_of setup t w.sid k.workers both.0; call = own.0; spot = own.1; blocker = blocker_of setup t w.blocker k.workers both.1 });
-        opens = k.opens;
-        leases = k.leases;
-        ranges = k.ranges;
-        holds = k.holds;
-        letters = k.letters;
-        workers = k.workers;
-        all_workers = k.all_workers;
-        ended = k.ended;
-        ended_in_order = k.ended_in_order;
-        ended_all = k.ended_all;
-        pending = k.pending;
-      }
-  in_sets-perform (c.DropWaiter sid call) t k fit own = record {
-    waiters = all_kept (IsWaiterRow setup) (λ w. is_other_wait sid call w.sid w.call) t.waiters k.waiters;
-    opens = k.opens;
-    leases = k.leases;
-    ranges = k.ranges;
-    holds = k.holds;
-    letters = k.letters;
-    workers = k.workers;
-    all_workers = k.all_workers;
-    ended = k.ended;
-    ended_in_order = k.ended_in_order;
-    ended_all = k.ended_all;
-    pending = k.pending;
-  }
-  in_sets-perform (c.Send post) t k fit own = record {
-    letters = all_more (IsPost setup) t.letters post k.letters (record { to = sid_of setup t post.to k.workers fit; letter = own });
-    opens = k.opens;
-    leases = k.leases;
-    ranges = k.ranges;
-    holds = k.holds;
-    waiters = k.waiters;
-    workers = k.workers;
-    all_workers = k.all_workers;
-    ended = k.ended;
-    ended_in_order = k.ended_in_order;
-    ended_all = k.ended_all;
-    pending = k.pending;
-  }
-  in_sets-perform (c.TakeLetter to) t k fit own = record {
-    letters = all_left (IsPost setup) (is_to to) t.letters k.letters;
-    opens = k.opens;
-    leases = k.leases;
-    ranges = k.ranges;
-    holds = k.holds;
-    waiters = k.waiters;
-    workers = k.workers;
-    all_workers = k.all_workers;
-    ended = k.ended;
-    ended_in_order = k.ended_in_order;
-    ended_all = k.ended_all;
-    pending = k.pending;
-  }
-  in_sets-perform (c.EndSession sid moment) t k fit own = record {
-    opens = all_kept (IsOpenRow setup) (outlives sid) t.opens k.opens;
-    leases = k.leases;
-    ranges = all_kept (IsRangeRow setup) (range_outlives (view t) sid) t.ranges k.ranges;
-    holds = all_kept (IsHoldRow setup) (λ hold. not (same_sid hold.owner sid)) t.holds k.holds;
-    waiters = all_kept (IsWaiterRow setup) (λ w. not (same_sid w.sid sid)) t.waiters k.waiters;
-    letters = all_kept (IsPost setup) (λ post. not (is_to sid post)) t.letters k.letters;
-    workers = all_changed (IsWorkerRow setup) (end_session sid) (worker_ends setup sid) t.workers k.workers;
-    all_workers = names_kept (end_session sid) (names_end sid) t.workers ∙ k.all_workers;
-    ended = all_more (IsEndedRow setup) t.ended (end_at sid moment) k.ended (record { sid = sid_of setup t sid k.workers fit.lives; moment = own });
-    ended_in_order = λ pid. order_ends setup t sid moment k fit.lives pid (sid.pid == pid) refl;
-    ended_all = λ pid. subst (λ o. IfSome o (λ w. length (map (λ (r : EndedRow). r.sid.session) (filter (is_end_of pid) (t.ended ++ end_at sid moment ∷ []))) ≡ ended_count w))
-        (sym (find-map (has_pid pid) (end_session sid) (λ w. ap (λ p. p == pid) (pid-end_session sid w)) t.workers))
-        (counted_ends setup t sid moment k fit.lives pid (sid.pid == pid) refl (find (has_pid pid) t.workers) refl);
-    pending = k.pending;
-  }
-  in_sets-perform (c.NextSession sid moment) t k fit own = record {
-    workers = all_changed (IsWorkerRow setup) (begin_session sid moment) (worker_begins setup sid moment own.0 own.1) t.workers k.workers;
-    all_workers = names_kept (begin_session sid moment) (names_begin sid moment) t.workers ∙ k.all_workers;
-    ended_all = λ pid. subst (λ o. IfSome o (λ w. length (ended_sessions t pid) ≡ ended_count w))
-        (sym (find-map (has_pid pid) (begin_session sid moment) (λ w. ap (λ p. p == pid) (pid-begin_session sid moment w)) t.workers))
-        (counted_begins setup t sid moment k fit pid (find (has_pid pid) t.workers) refl);
-    opens = k.opens;
-    leases = k.leases;
-    ranges = k.ranges;
-    holds = k.holds;
-    waiters = k.waiters;
-    letters = k.letters;
-    ended = k.ended;
-    ended_in_order = k.ended_in_order;
-    pending = k.pending;
-  }
-  in_sets-perform c.Settle t k fit own = record {
-    opens = all_kept (IsOpenRow setup) (row_stays (λ file. true) (view t)) t.opens k.opens;
-    ranges = all_kept (IsRangeRow setup) (range_stays (λ file. true) (view t)) t.ranges k.ranges;
-    leases = all_kept (IsLeaseRow setup) (lease_stays (λ file. true) (view t)) (map (lease_settles (λ file. true) (view t)) t.leases)
-        (all_changed (IsLeaseRow setup) (lease_settles (λ file. true) (view t)) (λ l h. lease_settled setup (file_view l.file (view t)) l h) t.leases k.leases);
-    holds = k.holds;
-    waiters = k.waiters;
-    letters = k.letters;
-    workers = k.workers;
-    all_workers = k.all_workers;
-    ended = k.ended;
-    ended_in_order = k.ended_in_order;
-    ended_all = k.ended_all;
-    pending = all_kept (IsFileNumber setup) (pending_stays (λ file. true) (view t)) t.pending k.pending;
-  }
+      in_sets (record p { waiters = more p.waiters w (record { sid = sid_of setup t w.sid k.workers both.0; call = own.0; spot = own.1; blocker = blocker_of setup t w.blocker k.workers both.1 }) })
+  in_sets-perform (c.DropWaiter sid call) t k fit own = let p = parts t k in in_sets (record p { waiters = kept (λ w. is_other_wait sid call w.sid w.call) p.waiters })
+  in_sets-perform (c.Send post) t k fit own = let p = parts t k in in_sets (record p { letters = more p.letters post (record { to = sid_of setup t post.to k.workers fit; letter = own }) })
+  in_sets-perform (c.TakeLetter to) t k fit own = let p = parts t k in in_sets (record p { letters = left (is_to to) p.letters })
+  in_sets-perform (c.EndSession sid moment) t k fit own =
+      let p = parts t k in
+      in_sets (record p {
+        opens = kept (outlives sid) p.opens;
+        ranges = kept (range_outlives (view t) sid) p.ranges;
+        holds = kept (λ hold. not (same_sid hold.owner sid)) p.holds;
+        waiters = kept (λ w. not (same_sid w.sid sid)) p.waiters;
+        letters = kept (λ post. not (is_to sid post)) p.letters;
+        workers = changed (end_session sid) (worker_ends setup sid) p.workers;
+        all_workers = names_kept (end_session sid) (names_end sid) t.workers ∙ k.all_workers;
+        ended = more p.ended (end_at sid moment) (record { sid = sid_of setup t sid k.workers fit.lives; moment = own });
+        ended_in_order = λ pid. order_ends setup t sid moment k fit.lives pid (sid.pid == pid) refl;
+        ended_all = λ pid. subst (λ o. IfSome o (λ w. length (sessions_in (t.ended ++ end_at sid moment ∷ []) pid) ≡ ended_count w))
+            (sym (find-map (has_pid pid) (end_session sid) (λ w. ap (λ p. p == pid) (pid-end_session sid w)) t.workers))
+            (counted_ends setup t sid moment k fit.lives pid (sid.pid == pid) refl (find (has_pid pid) t.workers) refl);
+      })
+  in_sets-perform (c.NextSession sid moment) t k fit own =
+      let p = parts t k in
+      in_sets (record p {
+        workers = changed (begin_session sid moment) (worker_begins setup sid moment own.0 own.1) p.workers;
+        all_workers = names_kept (begin_session sid moment) (names_begin sid moment) t.workers ∙ k.all_workers;
+        ended_all = λ pid. subst (λ o. IfSome o (λ w. length (ended_sessions t pid) ≡ ended_count w))
+            (sym (find-map (has_pid pid) (begin_session sid moment) (λ w. ap (λ p. p == pid) (pid-begin_session sid moment w)) t.workers))
+            (counted_begins setup t sid moment k fit pid (find (has_pid pid) t.workers) refl);
+      })
+  in_sets-perform c.Settle t k fit own =
+      let p = parts t k in
+      in_sets (record p {
+        opens = kept (row_stays (λ file. true) (view t)) p.opens;
+        ranges = kept (range_stays (λ file. true) (view t)) p.ranges;
+        leases = kept (lease_stays (λ file. true) (view t)) (changed (lease_settles (λ file. true) (view t)) (λ l h. lease_settled setup (file_view l.file (view t)) l h) p.leases);
+        pending = kept (pending_stays (λ file. true) (view t)) p.pending;
+      })
 
   pub in_sets-perform_all : (cs : List Change) (t : Table) → IsInSets setup t → AllFit cs t → AllBring setup cs t → IsInSets setup (perform_all cs t)
   in_sets-perform_all cs t k fit own = kept_along (IsInSets setup) (Brings setup) in_sets-perform cs t k fit own

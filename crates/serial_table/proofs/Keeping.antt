@@ -16,11 +16,11 @@ use Rattle.serial_table.specs.Keeping.{key_cmp, key_of_id, key_of_name, sid_cmp,
 use Rattle.serial_table.proofs.Finding.{find-of_filter}
 
 module _ {X : Type 0} where
-  found_already : (b : Bool) (y : X) (found later rest : Option X) → rest ≡ first_found found later → cond b (Some y) rest ≡ first_found (cond b (Some y) found) later
+  pub found_already : (b : Bool) (y : X) (found later rest : Option X) → rest ≡ first_found found later → cond b (Some y) rest ≡ first_found (cond b (Some y) found) later
   found_already true y found later rest e = refl
   found_already false y found later rest e = e
 
-  find-push : (p : X → Bool) (xs : List X) (x : X) → find p (xs ++ x ∷ []) ≡ first_found (find p xs) (cond (p x) (Some x) None)
+  pub find-push : (p : X → Bool) (xs : List X) (x : X) → find p (xs ++ x ∷ []) ≡ first_found (find p xs) (cond (p x) (Some x) None)
   find-push p [] x = refl
   find-push p (y ∷ ys) x = found_already (p y) y (find p ys) (cond (p x) (Some x) None) (find p (ys ++ x ∷ [])) (find-push p ys x)
 
@@ -33,10 +33,10 @@ module _ {X : Type 0} where
 
 -- ---- keys
 
-cmp_eq : (a b : ℕ) → is_eq (nat_cmp a b) ≡ eqb a b
+pub cmp_eq : (a b : ℕ) → is_eq (nat_cmp a b) ≡ eqb a b
 cmp_eq a b = grind (arith, nat_tests)
 
-then_eq : (o p : Ordering) → is_eq (ordering_then o p) ≡ (is_eq o && is_eq p)
+pub then_eq : (o p : Ordering) → is_eq (ordering_then o p) ≡ (is_eq o && is_eq p)
 then_eq Less p = refl
 then_eq Equal p = refl
 then_eq Greater p = refl

@@ -11,6 +11,7 @@ pub mod Tabling
 pub mod Names
 pub mod Views
 pub mod Members
+pub mod Listed
 pub mod Going
 pub mod Unmoved
 pub mod Living

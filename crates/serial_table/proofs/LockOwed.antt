@@ -180,7 +180,7 @@ first_passes p h v caller span mode wait (row ∷ rows) =
     own_pass p h caller f.range_watches (lock_range f caller span mode wait row)
     (of_lock (λ d. list_all p d.changes ≡ true) f caller span mode row (record {
       replies = λ reply. refl;
-      grants = λ _. one_passes p h _ _ (h.ranged _) (each_passes p h caller.moment row.file f none_of_them _);
+      grants = λ _. one_passes p h _ _ (h.rows _ refl) (each_passes p h caller.moment row.file f none_of_them _);
       waits = λ range. refl;
     }) wait)
 

@@ -1,5 +1,5 @@
 -- Numbers rise along a legal history: those of the table are at most the last ones used. By pid, low gives the last number of a call.
-use Rattle.std.proofs.Common.{◌≡◌, ◌==◌, ◌+◌, ◌≤◌, ◌&&◌, not, ℕ, Bool, true, false, List, [], ◌∷◌, ◌++◌, filter, map, Option, Some, None, sym, subst, inl, inr, ◌⊎◌, arith}
+use Rattle.std.proofs.Common.{◌≡◌, ◌==◌, ◌+◌, ◌≤◌, ◌&&◌, not, ℕ, true, false, map, Option, Some, None, sym, subst, arith}
 use Rattle.std.specs.Prelude.{IfSome}
 use Rattle.std.specs.List.{list_any}
 use Rattle.std.specs.Option.{option_map_or}
@@ -20,10 +20,11 @@ use Rattle.serial_table.specs.declared.table.Table.{Table}
 use Rattle.serial_table.specs.declared.change.Change.{Change}
 use Rattle.serial_table.specs.declared.change.Change.TheVariants as c
 use Rattle.serial_table.specs.View.{view, lives, is_of_handle, is_to}
-use Rattle.serial_table.specs.Settle.{settle_where, row_stays}
+use Rattle.serial_table.specs.Settle.{settle, settle_where, row_stays}
 use Rattle.serial_table.specs.Change.{perform, is_open, is_other_open, is_other_wait, new_owner, is_hold, set_hold, outlives, end_session, end_at, begin_session}
 use Rattle.serial_table.specs.Sound.{Fits}
-use Rattle.serial_table.proofs.Members.{IsIn, in_filter, in_push, in_drop, in_map}
+use Rattle.serial_table.proofs.Members.{IsIn}
+use Rattle.serial_table.proofs.Listed.{Listed, more, kept, left, changed}
 use Rattle.serial_table.proofs.Living.{row_of}
 
 -- The first session has number 1, and each call begins one at most.
@@ -88,148 +89,90 @@ blocker_of : (low : ℕ → ℕ) (t : Table) (blocker : Option Sid) → IsNumber
 blocker_of low t None n e = tt
 blocker_of low t (Some sid) n e = session_of low t sid n e
 
+-- ---- the lists of rows that have numbers, each with what holds of its rows; a change gives those that it alters
+
+record Parts (low : ℕ → ℕ) : Type 0 where
+  opens : Listed (IsNumberedOpen low)
+  holds : Listed (λ (hold : HoldRow). IsSessionUpTo low hold.owner)
+  waiters : Listed (IsNumberedWaiter low)
+  letters : Listed (λ (post : Post). IsSessionUpTo low post.to)
+  workers : Listed (λ (worker : WorkerRow). worker.session ≤ low worker.pid + 1)
+  ended : Listed (λ (row : EndedRow). IsSessionUpTo low row.sid)
+
+module _ {low : ℕ → ℕ} where
+  abbrev parts : (t : Table) → IsNumbered low t → Parts low
+  parts t n = record {
+    opens = record { rows = t.opens; each = n.opens };
+    holds = record { rows = t.holds; each = n.holds };
+    waiters = record { rows = t.waiters; each = n.waiters };
+    letters = record { rows = t.letters; each = n.letters };
+    workers = record { rows = t.workers; each = n.workers };
+    ended = record { rows = t.ended; each = n.ended };
+  }
+
+  abbrev with_parts : Table → Parts low → Table
+  with_parts t p = record t { opens = p.opens.rows; holds = p.holds.rows; waiters = p.waiters.rows; letters = p.letters.rows; workers = p.workers.rows; ended = p.ended.rows }
+
+  numbered : (t : Table) (p : Parts low) → IsNumbered low (with_parts t p)
+  numbered t p = record { opens = p.opens.each; holds = p.holds.each; waiters = p.waiters.each; letters = p.letters.each; workers = p.workers.each; ended = p.ended.each }
+
 -- ---- each change
 
-more : {X : Type 0} (P : X → Type 0) (xs : List X) (x : X) → ((y : X) → IsIn y xs → P y) → P x → (y : X) → IsIn y (xs ++ x ∷ []) → P y
-more P xs x h p y i = one_more (in_push xs x y i)
-  where
-    one_more : IsIn y xs ⊎ (x ≡ y) → P y
-    one_more (inl j) = h y j
-    one_more (inr e) = subst P e p
-
-fewer : {X : Type 0} (P : X → Type 0) (p : X → Bool) (xs : List X) → ((y : X) → IsIn y xs → P y) → (y : X) → IsIn y (filter p xs) → P y
-fewer P p xs h y i = h y (in_filter p xs y i).0
-
-mapped : {X : Type 0} (P : X → Type 0) (f : X → X) (xs : List X) → ((y : X) → IsIn y xs → P y) → ((y : X) → IsIn y xs → P y → P (f y)) → (y : X) → IsIn y (map f xs) → P y
-mapped P f xs h step y i = let m = in_map f xs y i in subst P m.2 (step m.0 m.1 (h m.0 m.1))
-
-takes_over : (low : ℕ → ℕ) (file : ℕ) (id : OpenId) (owner : Sid) (handle : ℕ) (t : Table) → IsNumbered low t → lives (view t) owner ≡ true → handle ≤ low owner.pid
-    → (o : OpenRow) → IsIn o (map (new_owner file id owner handle) t.opens) → IsNumberedOpen low o
+open_taken : (low : ℕ → ℕ) (file : ℕ) (id : OpenId) (owner : Sid) (handle : ℕ) → IsSessionUpTo low owner → handle ≤ low owner.pid → (o : OpenRow) → IsNumberedOpen low o
+    → IsNumberedOpen low (new_owner file id owner handle o)
 unfolding new_owner
-takes_over low file id owner handle t n live own =
-    mapped (IsNumberedOpen low) (new_owner file id owner handle) t.opens n.opens
-    (λ o i p. cond_both (is_open file id o) (record o { owner = owner; handle = handle }) o (IsNumberedOpen low)
-    (λ _. record { id = p.id; handle = own; owner = session_of low t owner n live }) (λ _. p))
+open_taken low file id owner handle session own o p =
+    cond_both (is_open file id o) (record o { owner = owner; handle = handle }) o (IsNumberedOpen low) (λ _. record { id = p.id; handle = own; owner = session }) (λ _. p)
 
-holds_set : (low : ℕ → ℕ) (key : ℕ) (owner : Sid) (mode : Mode) (t : Table) → IsNumbered low t → (hold : HoldRow) → IsIn hold (map (set_hold key owner mode) t.holds) → IsSessionUpTo low hold.owner
+hold_set : (low : ℕ → ℕ) (key : ℕ) (owner : Sid) (mode : Mode) (hold : HoldRow) → IsSessionUpTo low hold.owner → IsSessionUpTo low (set_hold key owner mode hold).owner
 unfolding set_hold
-holds_set low key owner mode t n =
-    mapped (λ hold. IsSessionUpTo low hold.owner) (set_hold key owner mode) t.holds n.holds
-    (λ h i p. cond_both (is_hold key owner h) (record h { mode = mode }) h (λ (x : HoldRow). IsSessionUpTo low x.owner) (λ _. p) (λ _. p))
+hold_set low key owner mode hold p = cond_both (is_hold key owner hold) (record hold { mode = mode }) hold (λ (x : HoldRow). IsSessionUpTo low x.owner) (λ _. p) (λ _. p)
 
-workers_ended : (low : ℕ → ℕ) (sid : Sid) (t : Table) → IsNumbered low t → (w : WorkerRow) → IsIn w (map (end_session sid) t.workers) → w.session ≤ low w.pid + 1
+worker_ends : (low : ℕ → ℕ) (sid : Sid) (w : WorkerRow) → w.session ≤ low w.pid + 1 → (end_session sid w).session ≤ low (end_session sid w).pid + 1
 unfolding end_session
-workers_ended low sid t n =
-    mapped (λ w. w.session ≤ low w.pid + 1) (end_session sid) t.workers n.workers
-    (λ w i p. cond_both ((w.pid == sid.pid) && (w.session == sid.session)) (record w { alive = false }) w (λ (x : WorkerRow). x.session ≤ low x.pid + 1) (λ _. p) (λ _. p))
+worker_ends low sid w p = cond_both ((w.pid == sid.pid) && (w.session == sid.session)) (record w { alive = false }) w (λ (x : WorkerRow). x.session ≤ low x.pid + 1) (λ _. p) (λ _. p)
 
-workers_begun : (low : ℕ → ℕ) (sid : Sid) (moment : Moment) (t : Table) → IsNumbered low t → Numbers low (c.NextSession sid moment) t → (w : WorkerRow) → IsIn w (map (begin_session sid moment) t.workers) → w.session ≤ low w.pid + 1
+worker_begins : (low : ℕ → ℕ) (sid : Sid) (moment : Moment) → sid.session ≤ low sid.pid → (w : WorkerRow) → w.session ≤ low w.pid + 1 → (begin_session sid moment w).session ≤ low (begin_session sid moment w).pid + 1
 unfolding begin_session
-workers_begun low sid moment t n next =
-    mapped (λ w. w.session ≤ low w.pid + 1) (begin_session sid moment) t.workers n.workers
-    (λ w i p. cond_both ((w.pid == sid.pid) && (w.session == sid.session)) (record w { alive = true; session = sid.session + 1; connected = moment }) w (λ (x : WorkerRow). x.session ≤ low x.pid + 1)
-    (λ e. let own : w.pid ≡ sid.pid = eqb-true w.pid sid.pid (and_parts (w.pid == sid.pid) (w.session == sid.session) e).0 in let below : sid.session ≤ low w.pid = subst (λ p. sid.session ≤ low p) (sym own) next in omega (arith, below)) (λ _. p))
+worker_begins low sid moment next w p =
+    cond_both ((w.pid == sid.pid) && (w.session == sid.session)) (record w { alive = true; session = sid.session + 1; connected = moment }) w (λ (x : WorkerRow). x.session ≤ low x.pid + 1)
+    (λ e. let own : w.pid ≡ sid.pid = eqb-true w.pid sid.pid (and_parts (w.pid == sid.pid) (w.session == sid.session) e).0 in let below : sid.session ≤ low w.pid = subst (λ p. sid.session ≤ low p) (sym own) next in omega (arith, below)) (λ _. p)
 
 pub numbered-perform : (low : ℕ → ℕ) (change : Change) (t : Table) → IsNumbered low t → Fits change t → Numbers low change t → IsNumbered low (perform change t)
 unfolding settle_where
-numbered-perform low (c.AddOpen o) t n fit own = record {
-  opens = more (IsNumberedOpen low) t.opens o n.opens (record { id = own.0; handle = own.1; owner = session_of low t o.owner n fit.owner });
-  holds = n.holds;
-  waiters = n.waiters;
-  letters = n.letters;
-  workers = n.workers;
-  ended = n.ended;
-}
-numbered-perform low (c.DropOpen file id) t n fit own = record {
-  opens = fewer (IsNumberedOpen low) (is_other_open file id) t.opens n.opens;
-  holds = n.holds;
-  waiters = n.waiters;
-  letters = n.letters;
-  workers = n.workers;
-  ended = n.ended;
-}
+numbered-perform low (c.AddOpen o) t n fit own =
+    let p = parts t n in numbered t (record p { opens = more p.opens o (record { id = own.0; handle = own.1; owner = session_of low t o.owner n fit.owner }) })
+numbered-perform low (c.DropOpen file id) t n fit own = let p = parts t n in numbered (perform (c.DropOpen file id) t) (record p { opens = kept (is_other_open file id) p.opens })
 numbered-perform low (c.TakeOver file id owner handle) t n fit own =
+    let p = parts t n in
     cond_both (list_any (is_of_handle owner handle) t.opens) t (record t { opens = map (new_owner file id owner handle) t.opens }) (IsNumbered low) (λ _. n)
-    (λ _. record { opens = takes_over low file id owner handle t n fit own; holds = n.holds; waiters = n.waiters; letters = n.letters; workers = n.workers; ended = n.ended })
-numbered-perform low (c.AddLease lease) t n fit own = record { opens = n.opens; holds = n.holds; waiters = n.waiters; letters = n.letters; workers = n.workers; ended = n.ended }
-numbered-perform low (c.SetLease file name held breaking) t n fit own = record { opens = n.opens; holds = n.holds; waiters = n.waiters; letters = n.letters; workers = n.workers; ended = n.ended }
-numbered-perform low (c.Acknowledge file name state) t n fit own = record { opens = n.opens; holds = n.holds; waiters = n.waiters; letters = n.letters; workers = n.workers; ended = n.ended }
-numbered-perform low (c.AddRange range) t n fit own = record { opens = n.opens; holds = n.holds; waiters = n.waiters; letters = n.letters; workers = n.workers; ended = n.ended }
-numbered-perform low (c.DropRange range) t n fit own = record { opens = n.opens; holds = n.holds; waiters = n.waiters; letters = n.letters; workers = n.workers; ended = n.ended }
-numbered-perform low (c.AddPending file) t n fit own = record { opens = n.opens; holds = n.holds; waiters = n.waiters; letters = n.letters; workers = n.workers; ended = n.ended }
-numbered-perform low (c.DropPending file) t n fit own = record { opens = n.opens; holds = n.holds; waiters = n.waiters; letters = n.letters; workers = n.workers; ended = n.ended }
-numbered-perform low (c.AddHold hold) t n fit own = record {
-  holds = more (λ hold. IsSessionUpTo low hold.owner) t.holds hold n.holds (session_of low t hold.owner n fit.owner);
-  opens = n.opens;
-  waiters = n.waiters;
-  letters = n.letters;
-  workers = n.workers;
-  ended = n.ended;
-}
-numbered-perform low (c.SetHold key owner mode) t n fit own = record {
-  holds = holds_set low key owner mode t n;
-  opens = n.opens;
-  waiters = n.waiters;
-  letters = n.letters;
-  workers = n.workers;
-  ended = n.ended;
-}
-numbered-perform low (c.DropHold key owner) t n fit own = record {
-  holds = fewer (λ hold. IsSessionUpTo low hold.owner) (λ hold. not (is_hold key owner hold)) t.holds n.holds;
-  opens = n.opens;
-  waiters = n.waiters;
-  letters = n.letters;
-  workers = n.workers;
-  ended = n.ended;
-}
+    (λ _. numbered t (record p { opens = changed (new_owner file id owner handle) (open_taken low file id owner handle (session_of low t owner n fit) own) p.opens }))
+numbered-perform low (c.AddLease lease) t n fit own = numbered (perform (c.AddLease lease) t) (parts t n)
+numbered-perform low (c.SetLease file name held breaking) t n fit own = numbered (perform (c.SetLease file name held breaking) t) (parts t n)
+numbered-perform low (c.Acknowledge file name state) t n fit own = numbered (perform (c.Acknowledge file name state) t) (parts t n)
+numbered-perform low (c.AddRange range) t n fit own = numbered (perform (c.AddRange range) t) (parts t n)
+numbered-perform low (c.DropRange range) t n fit own = numbered (perform (c.DropRange range) t) (parts t n)
+numbered-perform low (c.AddPending file) t n fit own = numbered (perform (c.AddPending file) t) (parts t n)
+numbered-perform low (c.DropPending file) t n fit own = numbered (perform (c.DropPending file) t) (parts t n)
+numbered-perform low (c.AddHold hold) t n fit own = let p = parts t n in numbered t (record p { holds = more p.holds hold (session_of low t hold.owner n fit.owner) })
+numbered-perform low (c.SetHold key owner mode) t n fit own = let p = parts t n in numbered t (record p { holds = changed (set_hold key owner mode) (hold_set low key owner mode) p.holds })
+numbered-perform low (c.DropHold key owner) t n fit own = let p = parts t n in numbered t (record p { holds = kept (λ hold. not (is_hold key owner hold)) p.holds })
 numbered-perform low (c.AddWaiter w) t n fit own =
+    let p = parts t n in
     let both = and_parts (lives (view t) w.sid) (option_map_or (lives (view t)) w.blocker true) fit.living in
-    record {
-      waiters = more (IsNumberedWaiter low) t.waiters w n.waiters (record { call = own; sid = session_of low t w.sid n both.0; blocker = blocker_of low t w.blocker n both.1 });
-      opens = n.opens;
-      holds = n.holds;
-      letters = n.letters;
-      workers = n.workers;
-      ended = n.ended;
-    }
-numbered-perform low (c.DropWaiter sid call) t n fit own = record {
-  waiters = fewer (IsNumberedWaiter low) (λ w. is_other_wait sid call w.sid w.call) t.waiters n.waiters;
-  opens = n.opens;
-  holds = n.holds;
-  letters = n.letters;
-  workers = n.workers;
-  ended = n.ended;
-}
-numbered-perform low (c.Send post) t n fit own = record {
-  letters = more (λ post. IsSessionUpTo low post.to) t.letters post n.letters (session_of low t post.to n fit);
-  opens = n.opens;
-  holds = n.holds;
-  waiters = n.waiters;
-  workers = n.workers;
-  ended = n.ended;
-}
-numbered-perform low (c.TakeLetter to) t n fit own = record {
-  letters = λ post i. n.letters post (in_drop (is_to to) t.letters post i);
-  opens = n.opens;
-  holds = n.holds;
-  waiters = n.waiters;
-  workers = n.workers;
-  ended = n.ended;
-}
-numbered-perform low (c.EndSession sid moment) t n fit own = record {
-  opens = fewer (IsNumberedOpen low) (outlives sid) t.opens n.opens;
-  holds = fewer (λ hold. IsSessionUpTo low hold.owner) (λ hold. not (same_sid hold.owner sid)) t.holds n.holds;
-  waiters = fewer (IsNumberedWaiter low) (λ w. not (same_sid w.sid sid)) t.waiters n.waiters;
-  letters = fewer (λ post. IsSessionUpTo low post.to) (λ post. not (is_to sid post)) t.letters n.letters;
-  workers = workers_ended low sid t n;
-  ended = more (λ row. IsSessionUpTo low row.sid) t.ended (end_at sid moment) n.ended (session_of low t sid n fit.lives);
-}
-numbered-perform low (c.NextSession sid moment) t n fit own = record { workers = workers_begun low sid moment t n own; opens = n.opens; holds = n.holds; waiters = n.waiters; letters = n.letters; ended = n.ended }
-numbered-perform low c.Settle t n fit own = record {
-  opens = fewer (IsNumberedOpen low) (row_stays (λ file. true) (view t)) t.opens n.opens;
-  holds = n.holds;
-  waiters = n.waiters;
-  letters = n.letters;
-  workers = n.workers;
-  ended = n.ended;
-}
+    numbered t (record p { waiters = more p.waiters w (record { call = own; sid = session_of low t w.sid n both.0; blocker = blocker_of low t w.blocker n both.1 }) })
+numbered-perform low (c.DropWaiter sid call) t n fit own = let p = parts t n in numbered t (record p { waiters = kept (λ w. is_other_wait sid call w.sid w.call) p.waiters })
+numbered-perform low (c.Send post) t n fit own = let p = parts t n in numbered t (record p { letters = more p.letters post (session_of low t post.to n fit) })
+numbered-perform low (c.TakeLetter to) t n fit own = let p = parts t n in numbered t (record p { letters = left (is_to to) p.letters })
+numbered-perform low (c.EndSession sid moment) t n fit own =
+    let p = parts t n in
+    numbered (perform (c.EndSession sid moment) t) (record p {
+      opens = kept (outlives sid) p.opens;
+      holds = kept (λ hold. not (same_sid hold.owner sid)) p.holds;
+      waiters = kept (λ w. not (same_sid w.sid sid)) p.waiters;
+      letters = kept (λ post. not (is_to sid post)) p.letters;
+      workers = changed (end_session sid) (worker_ends low sid) p.workers;
+      ended = more p.ended (end_at sid moment) (session_of low t sid n fit.lives);
+    })
+numbered-perform low (c.NextSession sid moment) t n fit own = let p = parts t n in numbered t (record p { workers = changed (begin_session sid moment) (worker_begins low sid moment own) p.workers })
+numbered-perform low c.Settle t n fit own = let p = parts t n in numbered (settle t) (record p { opens = kept (row_stays (λ file. true) (view t)) p.opens })

@@ -352,10 +352,10 @@ module _ (p : Change → Bool) (h : PassesRows p) where
         replies = λ reply. refl;
         waits_first = λ blocker e. handle_pass f asked;
         waits = λ blocker e. all_pass f asked;
-        plain = λ right bare. both_pass p h (all_breaks f asked).changes (c.AddOpen (new_open caller asked false) ∷ []) (all_pass f asked) (one_passes p h _ [] (h.opened _) refl);
+        plain = λ right bare. both_pass p h (all_breaks f asked).changes (c.AddOpen (new_open caller asked false) ∷ []) (all_pass f asked) (one_passes p h _ [] (h.rows _ refl) refl);
         under = λ right here name under.
             let lease = grant_lease (all_broken f asked) asked name in
-            both_pass p h (all_breaks f asked).changes _ (all_pass f asked) (both_pass p h lease.changes _ (lease_passes p h.leased h.set (all_broken f asked) asked name) (one_passes p h _ [] (h.opened _) refl));
+            both_pass p h (all_breaks f asked).changes _ (all_pass f asked) (both_pass p h lease.changes _ (lease_passes p (λ _. h.rows _ refl) (λ _ _ _ _. h.rows _ refl) (all_broken f asked) asked name) (one_passes p h _ [] (h.rows _ refl) refl));
       }))
 
 pub open_keeps : (v : View) (caller : Caller) (asked : Asked) → list_all keeps_workers (open_file v caller asked).changes ≡ true

@@ -23,7 +23,8 @@ use Rattle.serial_table.specs.Sound.{IsConsistent, IsNewWaiter, AllAlong, AllFit
 use Rattle.serial_table.specs.InSets.{Brings}
 use Rattle.serial_table.proofs.SameIds.{same_sid-refl}
 use Rattle.serial_table.proofs.Members.{IsIn, any_none, none_of, mapped_in, passes_in}
-use Rattle.serial_table.proofs.Concluding.{PassesFinishing, no_more_all, perform_all-append}
+use Rattle.serial_table.proofs.Concluding.{no_more_all, perform_all-append}
+use Rattle.serial_table.proofs.Workers.{keeps_waits}
 use Rattle.serial_table.proofs.Consistent.{consistent-perform_all}
 use Rattle.serial_table.proofs.Counting.{sum_mapped}
 use Rattle.serial_table.proofs.Waits.{waits_of, adds_waits, waits-perform, grows}
@@ -97,9 +98,6 @@ module _ (t : Table) (caller : Caller) (watches : List Watch) (d : Decision) whe
         waits = rest.waits;
         letters = rest.letters;
       }
-
-keeps_waits : PassesFinishing keeps_workers
-keeps_waits = record { comes = λ _. refl; goes = λ _ _. refl; sent = λ _. refl }
 
 pub own_keeps : (caller : Caller) (watches : List Watch) (d : Decision) → list_all keeps_workers d.changes ≡ true → list_all keeps_workers (no_longer_waits caller watches d).changes ≡ true
 own_keeps caller watches d e =

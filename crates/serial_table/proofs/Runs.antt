@@ -4,7 +4,8 @@ use Rattle.std.proofs.lemmas.Bool.Decides.{nat_tests}
 use Rattle.std.proofs.lemmas.List.{append-nil, take-append-drop, get_or-take, get_or-drop}
 use Rattle.std.proofs.lemmas.List.Elements.{filter-append}
 use Rattle.std.specs.Ordering.{nat_cmp, is_lt}
-use Rattle.std.specs.List.Sorted.{IsPartitionPoint, IsStableByKey}
+use Rattle.std.proofs.lemmas.List.Sorted.{IsPartitionedBy-leb, IsPartitionedBy-ltb, IsNonDecreasingBy-drop}
+use Rattle.std.specs.List.Sorted.{IsPartitionPoint, IsPartitionedBy, IsNonDecreasingBy, IsStableByKey}
 
 below_apart : (m f : ℕ) → ltb m f ≡ true → eqb m f ≡ false
 below_apart m f e = grind (arith, nat_tests)
@@ -66,12 +67,14 @@ module _ {X : Type 0} (n : X → ℕ) (f : ℕ) (xs : List X) (a b : ℕ) where
       ∙ sym (filter-append (λ y. eqb (n y) f) (take a xs) rest)
       ∙ ap (filter (λ y. eqb (n y) f)) (take-append-drop a xs)
 
--- the same of what is left behind the first point
-pub run_of : {X : Type 0} (n : X → ℕ) (f : ℕ) (xs ys : List X) (a b : ℕ) → ys ≡ drop a xs → a ≤ length xs → b ≤ length ys
-    → IsPartitionPoint (λ y. ltb (n y) f ≡ true) (λ y. ltb (n y) f ≡ false) xs a → IsPartitionPoint (λ y. leb (n y) f ≡ true) (λ y. leb (n y) f ≡ false) ys b → take b ys ≡ filter (λ y. eqb (n y) f) xs
-run_of {X} n f xs ys a b e in_xs in_ys parted later =
-    ap (take b) e
-    ∙ run_is n f xs a b in_xs (subst (λ (zs : List X). b ≤ length zs) e in_ys) parted (subst (λ (zs : List X). IsPartitionPoint (λ y. leb (n y) f ≡ true) (λ y. leb (n y) f ≡ false) zs b) e later)
+-- the same where the elements are sorted by the number, and binary search finds the points: the second in what is left behind the first
+pub run_of : {X : Type 0} (n : X → ℕ) (f : ℕ) (xs ys : List X) (a b : ℕ) → ys ≡ drop a xs → IsNonDecreasingBy n xs → a ≤ length xs → b ≤ length ys
+    → (IsPartitionedBy (λ y. ltb (n y) f) xs → IsPartitionPoint (λ y. ltb (n y) f ≡ true) (λ y. ltb (n y) f ≡ false) xs a)
+    → (IsPartitionedBy (λ y. leb (n y) f) ys → IsPartitionPoint (λ y. leb (n y) f ≡ true) (λ y. leb (n y) f ≡ false) ys b) → take b ys ≡ filter (λ y. eqb (n y) f) xs
+run_of {X} n f xs ys a b e sorted in_xs in_ys parted later =
+    let left = subst (λ (zs : List X). IsNonDecreasingBy n zs) (sym e) (IsNonDecreasingBy-drop n a xs sorted) in
+    let second = subst (λ (zs : List X). IsPartitionPoint (λ y. leb (n y) f ≡ true) (λ y. leb (n y) f ≡ false) zs b) e (later (IsPartitionedBy-leb n ys f left)) in
+    ap (take b) e ∙ run_is n f xs a b in_xs (subst (λ (zs : List X). b ≤ length zs) e in_ys) (parted (IsPartitionedBy-ltb n xs f sorted)) second
 
 -- a stable sort by a number keeps the order of those of one number
 pub same_runs : {X : Type 0} (n : X → ℕ) (make : ℕ → X) → ((f : ℕ) → n (make f) ≡ f) → (xs ys : List X) → IsStableByKey n nat_cmp xs ys → (f : ℕ) → filter (λ y. eqb (n y) f) ys ≡ filter (λ y. eqb (n y) f) xs

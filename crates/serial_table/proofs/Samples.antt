@@ -26,6 +26,7 @@ use Rattle.serial_table.specs.declared.rows.WaiterRow.{WaiterRow}
 use Rattle.serial_table.specs.declared.rows.WorkerRow.{WorkerRow}
 use Rattle.serial_table.specs.declared.rows.EndedRow.{EndedRow}
 use Rattle.serial_table.specs.declared.table.Table.{Table}
+use Rattle.serial_table.specs.History.{start}
 
 -- ---- names
 
@@ -94,17 +95,7 @@ ends = ended 102 1 10 ∷ ended 103 1 20 ∷ ended 102 2 40 ∷ ended 103 2 50 �
 
 -- these workers, and nothing open
 abbrev pub nothing_open : Table
-nothing_open = record {
-  opens = [];
-  leases = [];
-  ranges = [];
-  holds = [];
-  waiters = [];
-  letters = [];
-  workers = worker_101 ∷ worker_102 ∷ worker_103 ∷ [];
-  ended = ends;
-  pending = [];
-}
+nothing_open = record (start setup) { workers = worker_101 ∷ worker_102 ∷ worker_103 ∷ []; ended = ends }
 
 -- ---- opens: the one of a pid and call, of a file, that its first owner still has
 

@@ -1,5 +1,5 @@
 -- What each call but `disconnect` and `scavenge` decides is of one file, and no session begins or ends by it.
-use Rattle.std.proofs.Common.{◌≡◌, ◌==◌, ◌&&◌, ◌+◌, ◌<◌, ◌^◌, not, ℕ, Bool, true, false, cond, List, [], ◌∷◌, ◌++◌, filter, Option, Some, None, refl, ◌∙◌, eq-eqb}
+use Rattle.std.proofs.Common.{◌≡◌, ◌==◌, ◌&&◌, ◌+◌, ◌<◌, ◌^◌, not, ℕ, Bool, true, false, cond, List, [], ◌∷◌, ◌++◌, filter, Option, Some, None, refl, ◌∙◌, eq-eqb, sym, ap, subst}
 use Rattle.std.specs.Prelude.{bit_and, bit_or, is_none}
 use Rattle.std.specs.List.{list_all, list_any}
 use Rattle.std.specs.Option.{option_map_or}
@@ -63,7 +63,7 @@ use Rattle.serial_table.proofs.GlobalLockOwed.{of_glock}
 use Rattle.serial_table.proofs.ReconnectOwed.{of_reconnect}
 use Rattle.serial_table.proofs.SessionOwed.{disconnect_made}
 use Rattle.serial_table.proofs.ScavengeOwed.{scavenge_keeps, scavenge_made}
-use Rattle.serial_table.proofs.Deciding.{all_enough}
+use Rattle.serial_table.proofs.Deciding.{kept_made, all_enough}
 
 -- its changes of opens and leases are all of one file
 abbrev pub IsOfOneFile : Decision → Type 0
@@ -311,10 +311,6 @@ enough_decided d t s alone = enough_in_named alone.0 d.changes t s alone.1
 
 -- ---- what changes of one file are, whatever the file
 
-kept_made : (change : Change) → keeps_workers change ≡ true → is_made change ≡ true
-kept_made (c.NextSession sid moment) e = absurd cc
-kept_made _ e = refl
-
 pub alone_keeps : (d : Decision) → IsOfOneFile d → list_all keeps_workers d.changes ≡ true
 alone_keeps d alone =
     all_each keeps_workers d.changes (λ change i. (and_parts (keeps_workers change) _ (each (leaves_others alone.0) d.changes alone.1 change i)).0)
@@ -329,17 +325,24 @@ ends_its_session call.Disconnect = true
 ends_its_session _ = false
 
 -- The next session's number has 32 bits.
-pub decided_made : (setup : Setup) (v : View) (caller : Caller) (which : Call) → caller.sid.session + 1 < 2 ^ 32 → list_all is_made (decide setup v caller which).changes ≡ true
-decided_made setup v caller call.Disconnect next = disconnect_made v caller next
-decided_made setup v caller call.Scavenge next = scavenge_made setup v caller
-decided_made setup v caller which next = alone_made (decide setup v caller which) (decided_alone setup v caller which refl)
+decide_made : (setup : Setup) (v : View) (caller : Caller) (which : Call) → caller.sid.session + 1 < 2 ^ 32 → list_all is_made (decide setup v caller which).changes ≡ true
+decide_made setup v caller call.Disconnect next = disconnect_made v caller next
+decide_made setup v caller call.Scavenge next = scavenge_made setup v caller
+decide_made setup v caller which next = alone_made (decide setup v caller which) (decided_alone setup v caller which refl)
+
+-- so too of a decision that is this one
+pub decided_made : (setup : Setup) (t : Table) (caller : Caller) (which : Call) (d : Decision) → d ≡ decide setup (view t) caller which → caller.sid.session + 1 < 2 ^ 32 → list_all is_made d.changes ≡ true
+decided_made setup t caller which d is next = ap (λ (d : Decision). list_all is_made d.changes) is ∙ decide_made setup (view t) caller which next
 
 pub decided_keeps : (setup : Setup) (v : View) (caller : Caller) (which : Call) → ends_its_session which ≡ false → list_all keeps_workers (decide setup v caller which).changes ≡ true
 decided_keeps setup v caller call.Disconnect e = absurd cc
 decided_keeps setup v caller call.Scavenge e = scavenge_keeps setup v caller
 decided_keeps setup v caller which e = alone_keeps (decide setup v caller which) (decided_alone setup v caller which refl)
 
-pub decided_enough : (setup : Setup) (t : Table) (caller : Caller) (which : Call) → settle t ≡ t → AreEnough (scope_of which (decide setup (view t) caller which).changes) (settling (decide setup (view t) caller which)) t
-decided_enough setup t caller call.Disconnect s = all_enough (settling (decide setup (view t) caller call.Disconnect)) t
-decided_enough setup t caller call.Scavenge s = all_enough (settling (decide setup (view t) caller call.Scavenge)) t
-decided_enough setup t caller which s = enough_decided (decide setup (view t) caller which) t s (decided_alone setup (view t) caller which refl)
+decide_enough : (setup : Setup) (t : Table) (caller : Caller) (which : Call) → settle t ≡ t → AreEnough (scope_of which (decide setup (view t) caller which).changes) (settling (decide setup (view t) caller which)) t
+decide_enough setup t caller call.Disconnect s = all_enough (settling (decide setup (view t) caller call.Disconnect)) t
+decide_enough setup t caller call.Scavenge s = all_enough (settling (decide setup (view t) caller call.Scavenge)) t
+decide_enough setup t caller which s = enough_decided (decide setup (view t) caller which) t s (decided_alone setup (view t) caller which refl)
+
+pub decided_enough : (setup : Setup) (t : Table) (caller : Caller) (which : Call) (d : Decision) → d ≡ decide setup (view t) caller which → settle t ≡ t → AreEnough (scope_of which d.changes) (settling d) t
+decided_enough setup t caller which d is s = subst (λ (d : Decision). AreEnough (scope_of which d.changes) (settling d) t) (sym is) (decide_enough setup t caller which s)

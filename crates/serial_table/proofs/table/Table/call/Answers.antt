@@ -4,38 +4,23 @@ use Rattle.serial_table.specs.View.{view}
 use Rattle.serial_table.specs.Settle.{settle}
 use Rattle.serial_table.specs.Decide.{decide}
 use Rattle.serial_table.proofs.Concluding.{concluded_is_settled}
-use Rattle.serial_table.proofs.Expiring.{copy_is, copy_settled, copy_lives, no_copy_is, behind_copy, behind_copy_reply, behind_copy_posts, settled_either}
+use Rattle.serial_table.proofs.Expiring.{copy_is_behind, itself_is_behind, settled_either}
 use Rattle.serial_table.proofs.table.Table.call.Goals as goal
 
 pub call_behind-requires-clause-settled : goal.call_behind-requires-clause-settled
-call_behind-requires-clause-settled c =
-    let t = c.args.self.now in
-    let is = copy_is c.args.setup.now t c.args.caller.now c.args.call c.in_ok-behind.field-0 c.in-Some.behind c.in-Some.is c.in_ok-behind.ensures.some in
-    copy_settled c.args.setup.now t c.in-Some.behind c.args.caller.now c.args.call is c.requires.settled
+call_behind-requires-clause-settled c = (copy_is_behind c.args.setup.now c.args.self.now c.args.caller.now c.args.call _ _ c.in-Some.is c.in_ok-behind.ensures.some).settled c.requires.settled
 
 pub call_behind-requires-clause-lives : goal.call_behind-requires-clause-lives
-call_behind-requires-clause-lives c =
-    let t = c.args.self.now in
-    let is = copy_is c.args.setup.now t c.args.caller.now c.args.call c.in_ok-behind.field-0 c.in-Some.behind c.in-Some.is c.in_ok-behind.ensures.some in
-    copy_lives c.args.setup.now t c.in-Some.behind c.args.caller.now c.args.call is c.requires.lives
+call_behind-requires-clause-lives c = (copy_is_behind c.args.setup.now c.args.self.now c.args.caller.now c.args.call _ _ c.in-Some.is c.in_ok-behind.ensures.some).lives c.requires.lives
 
 pub returns-in_ok-answer-in-Some-clause-changed : goal.returns-in_ok-answer-in-Some-clause-changed
-returns-in_ok-answer-in-Some-clause-changed c =
-    let t = c.args.self.now in
-    let is = copy_is c.args.setup.now t c.args.caller.now c.args.call c.in_ok-behind.field-0 c.in-Some.behind c.in-Some.is c.in_ok-behind.ensures.some in
-    c.in_ok-answer-in-Some.ensures.changed ∙ sym (behind_copy c.args.setup.now t c.in-Some.behind c.args.caller.now c.args.call is)
+returns-in_ok-answer-in-Some-clause-changed c = c.in_ok-answer-in-Some.ensures.changed ∙ sym (copy_is_behind c.args.setup.now c.args.self.now c.args.caller.now c.args.call _ _ c.in-Some.is c.in_ok-behind.ensures.some).changed
 
 pub returns-in_ok-answer-in-Some-clause-reply : goal.returns-in_ok-answer-in-Some-clause-reply
-returns-in_ok-answer-in-Some-clause-reply c =
-    let t = c.args.self.now in
-    let is = copy_is c.args.setup.now t c.args.caller.now c.args.call c.in_ok-behind.field-0 c.in-Some.behind c.in-Some.is c.in_ok-behind.ensures.some in
-    c.in_ok-answer-in-Some.ensures.reply ∙ sym (behind_copy_reply c.args.setup.now t c.in-Some.behind c.args.caller.now c.args.call is)
+returns-in_ok-answer-in-Some-clause-reply c = c.in_ok-answer-in-Some.ensures.reply ∙ sym (copy_is_behind c.args.setup.now c.args.self.now c.args.caller.now c.args.call _ _ c.in-Some.is c.in_ok-behind.ensures.some).reply
 
 pub returns-in_ok-answer-in-Some-clause-posts : goal.returns-in_ok-answer-in-Some-clause-posts
-returns-in_ok-answer-in-Some-clause-posts c =
-    let t = c.args.self.now in
-    let is = copy_is c.args.setup.now t c.args.caller.now c.args.call c.in_ok-behind.field-0 c.in-Some.behind c.in-Some.is c.in_ok-behind.ensures.some in
-    c.in_ok-answer-in-Some.ensures.posts ∙ sym (behind_copy_posts c.args.setup.now t c.in-Some.behind c.args.caller.now c.args.call is)
+returns-in_ok-answer-in-Some-clause-posts c = c.in_ok-answer-in-Some.ensures.posts ∙ sym (copy_is_behind c.args.setup.now c.args.self.now c.args.caller.now c.args.call _ _ c.in-Some.is c.in_ok-behind.ensures.some).posts
 
 pub returns-in_ok-answer-in-Some-clause-settled : goal.returns-in_ok-answer-in-Some-clause-settled
 returns-in_ok-answer-in-Some-clause-settled c =
@@ -43,10 +28,7 @@ returns-in_ok-answer-in-Some-clause-settled c =
     ap settle done ∙ concluded_is_settled (decide c.args.setup.now (view c.in-Some.behind) c.args.caller.now c.args.call) c.in-Some.behind ∙ sym done
 
 pub returns-in-None-clause-reply : goal.returns-in-None-clause-reply
-returns-in-None-clause-reply c =
-    let t = c.args.self.now in
-    let is = no_copy_is c.args.setup.now t c.args.caller.now c.args.call c.in_ok-behind.field-0 c.in-None.is c.in_ok-behind.ensures.none in
-    IfOk-weaker c.call_behind-in-None.result _ _ (λ _ h. h ∙ sym (behind_copy_reply c.args.setup.now t t c.args.caller.now c.args.call is)) c.call_behind-in-None.ensures.reply
+returns-in-None-clause-reply c = IfOk-weaker c.call_behind-in-None.result _ _ (λ _ h. h ∙ sym (itself_is_behind c.args.setup.now c.args.self.now c.args.caller.now c.args.call _ c.in-None.is c.in_ok-behind.ensures.none).reply) c.call_behind-in-None.ensures.reply
 
 pub returns-in-None-clause-settled : goal.returns-in-None-clause-settled
 returns-in-None-clause-settled c =
