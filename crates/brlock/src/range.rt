@@ -1,4 +1,4 @@
-ghost use Rattle.std.specs.Prelude.{◌≡◌, ◌+◌, ℕ, nat_lt};
+ghost use Rattle.std.specs.Prelude.{◌≡◌, ℕ};
 ghost use Rattle.serial_table.specs.Change.{same_mode};
 ghost use Rattle.serial_table.specs.Range as table;
 ghost use Rattle.record_rows.specs.Rows.{range_row};
@@ -23,37 +23,12 @@ pub(crate) fn is_exclusive(mode: Mode) -> bool
     is_same_mode(mode, Mode::Exclusive)
 }
 
-/// Whether the place is before the range's end. The end may be beyond 2^64 - 1.
-fn is_before_end(place: u64, span: Span) -> bool
-    ensures { result ≡ nat_lt place (span.start + span.length) }
-{
-    place < span.start || place - span.start < span.length
-}
-
-fn is_inside(place: u64, span: Span) -> bool
-    ensures { result ≡ table.is_inside place span }
-{
-    span.start < place && is_before_end(place, span)
-}
-
-fn share_a_byte(a: Span, b: Span) -> bool
-    ensures { result ≡ table.share_a_byte a b }
-{
-    is_before_end(a.start, b) && is_before_end(b.start, a)
-}
-
 /// Whether two ranges overlap ([MS-FSA] 2.1.4.10). One of length 0 is the place before its first byte, and overlaps one that has bytes on
 /// both sides of it; two of length 0 don't overlap. A range may pass 2^64 - 1, and is compared whole.
 pub fn overlap(a: Span, b: Span) -> bool
     ensures { result ≡ table.overlap a b }
 {
-    if a.length == 0 {
-        is_inside(a.start, b)
-    } else if b.length == 0 {
-        is_inside(b.start, a)
-    } else {
-        share_a_byte(a, b)
-    }
+    serial_table::overlap(a, b)
 }
 
 pub(crate) fn passes_end(span: Span) -> bool

@@ -7,7 +7,7 @@ ghost use Rattle.sid_core.specs.Values.{has};
 ghost use Rattle.serial_table.specs.View.{view, is_of_file};
 ghost use Rattle.serial_table.specs.Break.{names_of};
 ghost use Rattle.serial_table.specs.File.{file_view};
-ghost use Rattle.serial_table.specs.Asked.{own_lease, asked_of, is_stat, deletes_without_right, is_elsewhere, conflicts, in_conflict, holds_handle, is_asked_and_connected, refuses};
+ghost use Rattle.serial_table.specs.Asked.{own_lease, is_stat, deletes_without_right, is_elsewhere, conflicts, in_conflict, holds_handle, is_asked_and_connected, refuses};
 ghost use Rattle.serial_table.specs.Alone.{shown, is_connected_under};
 ghost use Rattle.serial_table.specs.OpenAt.{row_conflicts, row_refuses};
 
@@ -49,7 +49,8 @@ pub(crate) fn own_lease(caller: &Caller, key: u64) -> LeaseName
     }
 }
 
-fn asked_lease(caller: &Caller, lease: Option<LeaseAsk>) -> Option<LeaseName>
+/// The whole name of the lease that is asked for.
+pub(crate) fn asked_lease(caller: &Caller, lease: Option<LeaseAsk>) -> Option<LeaseName>
     ensures { result ≡ option_map (λ (ask : LeaseAsk). own_lease caller.now ask.key) lease }
 {
     match lease {
@@ -58,37 +59,13 @@ fn asked_lease(caller: &Caller, lease: Option<LeaseAsk>) -> Option<LeaseName>
     }
 }
 
-fn asked_state(lease: Option<LeaseAsk>) -> LeaseState
+/// What is asked of it: nothing, where no lease is asked for.
+pub(crate) fn asked_state(lease: Option<LeaseAsk>) -> LeaseState
     ensures { result ≡ option_map_or (λ (ask : LeaseAsk). ask.state) lease (lease_state 0) }
 {
     match lease {
         Some(ask) => ask.state,
         None => LeaseState(0),
-    }
-}
-
-pub(crate) fn asked_of(
-    caller: &Caller,
-    file: u32,
-    access: Access,
-    share: Share,
-    lease: Option<LeaseAsk>,
-    durable: u32,
-    overwrite: bool,
-    delete: bool,
-) -> Asked
-    ensures { result ≡ asked_of caller.now file access share lease durable overwrite delete }
-{
-    Asked {
-        file,
-        access,
-        share,
-        lease: asked_lease(caller, lease),
-        state: asked_state(lease),
-        durable,
-        overwrite,
-        delete,
-        moment: caller.moment,
     }
 }
 

@@ -4,7 +4,7 @@ ghost use Rattle.serial_table.specs.Decide.{decide};
 ghost use Rattle.serial_table.specs.InPlace.{file_of_change, file_of_changes, scope_of};
 
 use crate::ack::ack;
-use crate::asked::asked_of;
+use crate::asked::{Asked, asked_lease, asked_state};
 use crate::change::Change;
 use crate::close::close;
 use crate::decision::{Caller, Decision, only_reply};
@@ -44,9 +44,17 @@ pub(crate) fn decide(
         } => open_file(
             table,
             caller,
-            &asked_of(
-                caller, file, access, share, lease, durable, overwrite, delete,
-            ),
+            &Asked {
+                file,
+                access,
+                share,
+                lease: asked_lease(caller, lease),
+                state: asked_state(lease),
+                durable,
+                overwrite,
+                delete,
+                moment: caller.moment,
+            },
         ),
         Call::Close { handle } => close(table, caller, handle),
         Call::Delete { handle, on } => delete(table, caller, handle, on),

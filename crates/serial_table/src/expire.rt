@@ -308,25 +308,16 @@ impl Table {
     fn copy(&self) -> Result<Table, OutOfMemory>
         ensures { IfOk result (λ table. table ≡ self.now) }
     {
-        let opens = self.opens.copy()?;
-        let leases = self.leases.copy()?;
-        let ranges = self.ranges.copy()?;
-        let holds = self.holds.copy()?;
-        let waiters = self.waiters.copy()?;
-        let letters = self.letters.copy()?;
-        let workers = self.workers.copy()?;
-        let ended = self.ended.copy()?;
-        let pending = self.pending.copy()?;
         Ok(Table {
-            opens,
-            leases,
-            ranges,
-            holds,
-            waiters,
-            letters,
-            workers,
-            ended,
-            pending,
+            opens: self.opens.copy()?,
+            leases: self.leases.copy()?,
+            ranges: self.ranges.copy()?,
+            holds: self.holds.copy()?,
+            waiters: self.waiters.copy()?,
+            letters: self.letters.copy()?,
+            workers: self.workers.copy()?,
+            ended: self.ended.copy()?,
+            pending: self.pending.copy()?,
         })
     }
 

@@ -14,6 +14,14 @@ use crate::view;
 use sid_core::{Items, Mode, OutOfMemory, Reply, Sid, Spot};
 use std::alloc::Global;
 
+/// What a `glock` asks for, and whether it waits where it isn't granted.
+#[derive(Clone, Copy)]
+struct AskedHold {
+    key: u64,
+    mode: Mode,
+    wait: bool,
+}
+
 // ---- whose holds
 
 fn is_own(caller: &Caller, hold: &HoldRow) -> bool
@@ -32,18 +40,6 @@ fn own_hold(table: &Table, caller: &Caller, key: u64) -> Option<HoldRow>
         .filter(|hold| view::is_hold_of(key, hold))
         .copied()
         .find(|hold| is_own(caller, hold))
-}
-
-fn other_hold(table: &Table, caller: &Caller, key: u64) -> Option<HoldRow>
-    ensures { result ≡ find (λ hold. not (same_sid hold.owner caller.now.sid)) (filter (is_hold_of key) table.now.holds) }
-{
-    table
-        .holds
-        .as_slice()
-        .iter()
-        .filter(|hold| view::is_hold_of(key, hold))
-        .copied()
-        .find(|hold| !is_own(caller, hold))
 }
 
 fn keeps_out(mode: Mode, hold: &HoldRow) -> bool
@@ -157,7 +153,7 @@ fn raise_behind(table: &Table, caller: &Caller, key: u64, wait: bool, first: &Ho
 fn raise(table: &Table, caller: &Caller, key: u64, wait: bool) -> Result<Decision, OutOfMemory>
     ensures { IfOk result (λ decision. decision ≡ raise (view table.now) caller.now key wait (other_holds (view table.now) caller.now key)) }
 {
-    match other_hold(table, caller, key) {
+    match hold_in_the_way(table, caller, key, Mode::Exclusive) {
         Some(first) => Ok(raise_behind(table, caller, key, wait, &first)),
         None => granted_one(
             table.holds.allocator(),
@@ -189,58 +185,39 @@ fn change_hold(
     }
 }
 
-fn wait_behind(
-    alloc: Global,
-    caller: &Caller,
-    key: u64,
-    mode: Mode,
-    wait: bool,
-    first: &HoldRow,
-) -> Decision
-    ensures { (others : List HoldRow) → result ≡ gain_hold caller.now key mode wait (first.now ∷ others) }
+fn wait_behind(alloc: Global, caller: &Caller, asked: &AskedHold, first: &HoldRow) -> Decision
+    ensures { (others : List HoldRow) → result ≡ gain_hold caller.now asked.now.key asked.now.mode asked.now.wait (first.now ∷ others) }
 {
-    if wait {
-        wait_for_lock(alloc, caller, key, first.owner, false)
+    if asked.wait {
+        wait_for_lock(alloc, caller, asked.key, first.owner, false)
     } else {
         decision::only_reply(alloc, Reply::LockNotGranted)
     }
 }
 
-fn gain_hold(
-    table: &Table,
-    caller: &Caller,
-    key: u64,
-    mode: Mode,
-    wait: bool,
-) -> Result<Decision, OutOfMemory>
-    ensures { IfOk result (λ decision. decision ≡ gain_hold caller.now key mode wait (filter (keeps_out mode) (other_holds (view table.now) caller.now key))) }
+fn gain_hold(table: &Table, caller: &Caller, asked: &AskedHold) -> Result<Decision, OutOfMemory>
+    ensures { IfOk result (λ decision. decision ≡ gain_hold caller.now asked.now.key asked.now.mode asked.now.wait (filter (keeps_out asked.now.mode) (other_holds (view table.now) caller.now asked.now.key))) }
 {
     let alloc = table.holds.allocator();
-    match hold_in_the_way(table, caller, key, mode) {
-        Some(first) => Ok(wait_behind(alloc, caller, key, mode, wait, &first)),
+    match hold_in_the_way(table, caller, asked.key, asked.mode) {
+        Some(first) => Ok(wait_behind(alloc, caller, asked, &first)),
         None => granted_one(
             alloc,
             Change::AddHold(HoldRow {
                 owner: caller.sid,
-                key,
-                mode,
+                key: asked.key,
+                mode: asked.mode,
             }),
         ),
     }
 }
 
-fn glock_by(
-    table: &Table,
-    caller: &Caller,
-    key: u64,
-    mode: Mode,
-    wait: bool,
-) -> Result<Decision, OutOfMemory>
-    ensures { IfOk result (λ decision. decision ≡ glock_by (view table.now) caller.now key mode wait (own_holds (view table.now) caller.now key)) }
+fn glock_by(table: &Table, caller: &Caller, asked: &AskedHold) -> Result<Decision, OutOfMemory>
+    ensures { IfOk result (λ decision. decision ≡ glock_by (view table.now) caller.now asked.now.key asked.now.mode asked.now.wait (own_holds (view table.now) caller.now asked.now.key)) }
 {
-    match own_hold(table, caller, key) {
-        Some(own) => change_hold(table, caller, key, wait, own.mode, mode),
-        None => gain_hold(table, caller, key, mode, wait),
+    match own_hold(table, caller, asked.key) {
+        Some(own) => change_hold(table, caller, asked.key, asked.wait, own.mode, asked.mode),
+        None => gain_hold(table, caller, asked),
     }
 }
 
@@ -255,7 +232,7 @@ pub(crate) fn glock(
 ) -> Result<Decision, OutOfMemory>
     ensures { IfOk result (λ decision. decision ≡ glock (view table.now) caller.now key mode wait) }
 {
-    let decision = glock_by(table, caller, key, mode, wait)?;
+    let decision = glock_by(table, caller, &AskedHold { key, mode, wait })?;
     no_longer_waits(table, caller, Spot::LockOf(key), decision)
 }
 

@@ -158,22 +158,6 @@ fn breaks_further(
     }
 }
 
-fn begin(
-    now: Moment,
-    file: u32,
-    to: Option<Sid>,
-    kept: LeaseState,
-    lease: &LeaseRow,
-) -> Option<LeaseBreak>
-    ensures { breaks_if_any file lease.now result ≡ break_by_owner now file to kept.0 lease.now None }
-{
-    if is_part_of(lease.held, kept) {
-        None
-    } else {
-        Some(breaks_of_owner(now, file, to, lease, common_part(lease.held, kept)))
-    }
-}
-
 /// Breaks all bits of the lease but those kept. `to` is the owner of its first connected open.
 pub(crate) fn break_by_owner(
     now: Moment,
@@ -186,6 +170,12 @@ pub(crate) fn break_by_owner(
 {
     match lease.breaking {
         Some(breaking) => Some(breaks_further(file, to, lease, breaking, kept)),
-        None => begin(now, file, to, kept, lease),
+        None => {
+            if is_part_of(lease.held, kept) {
+                None
+            } else {
+                Some(breaks_of_owner(now, file, to, lease, common_part(lease.held, kept)))
+            }
+        }
     }
 }

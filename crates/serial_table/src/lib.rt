@@ -52,6 +52,7 @@ pub use laws::{
     the_living_call, the_living_stay, what_happens_shows,
 };
 pub use lease_break::new_breaking;
+pub use range::overlap;
 pub use rows::{
     Breaking, EndedRow, HoldRow, LeaseRow, OpenRow, RangeRow, WaiterRow, Watch, WorkerRow,
 };

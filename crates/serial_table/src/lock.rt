@@ -20,6 +20,14 @@ use bitflags::Flags;
 use sid_core::{Access, Items, LeaseState, Mode, Moment, OutOfMemory, Reply, Sid, Span, Spot};
 use std::alloc::Global;
 
+/// What a `lock` asks for, and whether it waits where it isn't granted.
+#[derive(Clone, Copy)]
+struct AskedRange {
+    span: Span,
+    mode: Mode,
+    wait: bool,
+}
+
 const READS_OR_WRITES: Access = Access(0x3);
 
 // ---- a range that is granted
@@ -141,16 +149,20 @@ fn wait_for_range(
 fn lock_behind(
     table: &Table,
     caller: &Caller,
-    span: Span,
-    mode: Mode,
-    wait: bool,
+    asked: &AskedRange,
     row: &OpenRow,
     first: &RangeRow,
 ) -> Decision
-    ensures { (others : List RangeRow) → result ≡ lock_by (file_view row.now.file (view table.now)) caller.now span mode wait row.now (first.now ∷ others) }
+    ensures { (others : List RangeRow) → result ≡ lock_by (file_view row.now.file (view table.now)) caller.now asked.now.span asked.now.mode asked.now.wait row.now (first.now ∷ others) }
 {
     let blocker = range_blocker(table, row.file, first);
-    wait_for_range(table.ranges.allocator(), caller, row.file, wait, blocker)
+    wait_for_range(
+        table.ranges.allocator(),
+        caller,
+        row.file,
+        asked.wait,
+        blocker,
+    )
 }
 
 // ---- the call
@@ -158,50 +170,44 @@ fn lock_behind(
 fn lock_by(
     table: &Table,
     caller: &Caller,
-    span: Span,
-    mode: Mode,
-    wait: bool,
+    asked: &AskedRange,
     row: &OpenRow,
 ) -> Result<Decision, OutOfMemory>
-    ensures { IfOk result (λ decision. decision ≡ lock_by (file_view row.now.file (view table.now)) caller.now span mode wait row.now (filter (λ held. range_conflict held row.now.id span mode) (filter (is_range_of row.now.file) table.now.ranges))) }
+    ensures { IfOk result (λ decision. decision ≡ lock_by (file_view row.now.file (view table.now)) caller.now asked.now.span asked.now.mode asked.now.wait row.now (filter (λ held. range_conflict held row.now.id asked.now.span asked.now.mode) (filter (is_range_of row.now.file) table.now.ranges))) }
 {
-    match range_in_the_way(table, row, span, mode) {
-        Some(first) => Ok(lock_behind(table, caller, span, mode, wait, row, &first)),
-        None => grant_range(table, caller.moment, row, span, mode),
+    match range_in_the_way(table, row, asked.span, asked.mode) {
+        Some(first) => Ok(lock_behind(table, caller, asked, row, &first)),
+        None => grant_range(table, caller.moment, row, asked.span, asked.mode),
     }
 }
 
 fn lock_range(
     table: &Table,
     caller: &Caller,
-    span: Span,
-    mode: Mode,
-    wait: bool,
+    asked: &AskedRange,
     row: &OpenRow,
 ) -> Result<Decision, OutOfMemory>
-    ensures { IfOk result (λ decision. decision ≡ lock_range (file_view row.now.file (view table.now)) caller.now span mode wait row.now) }
+    ensures { IfOk result (λ decision. decision ≡ lock_range (file_view row.now.file (view table.now)) caller.now asked.now.span asked.now.mode asked.now.wait row.now) }
 {
     let alloc = table.ranges.allocator();
     if !row.access.intersects(READS_OR_WRITES) {
         Ok(decision::only_reply(alloc, Reply::AccessDenied))
-    } else if passes_end(span) {
+    } else if passes_end(asked.span) {
         Ok(decision::only_reply(alloc, Reply::InvalidLockRange))
     } else {
-        lock_by(table, caller, span, mode, wait, row)
+        lock_by(table, caller, asked, row)
     }
 }
 
 fn lock_in(
     table: &Table,
     caller: &Caller,
-    span: Span,
-    mode: Mode,
-    wait: bool,
+    asked: &AskedRange,
     row: &OpenRow,
 ) -> Result<Decision, OutOfMemory>
-    ensures { IfOk result (λ decision. decision ≡ lock_in (file_view row.now.file (view table.now)) caller.now span mode wait row.now) }
+    ensures { IfOk result (λ decision. decision ≡ lock_in (file_view row.now.file (view table.now)) caller.now asked.now.span asked.now.mode asked.now.wait row.now) }
 {
-    let decision = lock_range(table, caller, span, mode, wait, row)?;
+    let decision = lock_range(table, caller, asked, row)?;
     no_longer_waits(table, caller, Spot::RangesOf(row.file), decision)
 }
 
@@ -217,7 +223,7 @@ pub(crate) fn lock(
     ensures { IfOk result (λ decision. decision ≡ lock (view table.now) caller.now handle span mode wait) }
 {
     match open_of_handle(table, caller.sid, handle) {
-        Some(row) => lock_in(table, caller, span, mode, wait, &row),
+        Some(row) => lock_in(table, caller, &AskedRange { span, mode, wait }, &row),
         None => Ok(decision::only_reply(table.opens.allocator(), Reply::FileClosed)),
     }
 }

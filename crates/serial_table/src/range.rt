@@ -30,7 +30,8 @@ fn share_a_byte(a: Span, b: Span) -> bool
     is_before_end(a.start, b) && is_before_end(b.start, a)
 }
 
-pub(crate) fn overlap(a: Span, b: Span) -> bool
+/// Whether two ranges overlap ([MS-FSA] 2.1.4.10). A range may pass 2^64 - 1, and is compared whole.
+pub fn overlap(a: Span, b: Span) -> bool
     ensures { result ≡ overlap a b }
 {
     if a.length == 0 {

@@ -13,7 +13,7 @@ ghost use Rattle.serial_table.specs.InPlace.{table_of, lives_by, is_lease_of, le
 use crate::change::Change;
 use crate::lists::{Lists, Scope};
 use crate::perform::{is_hold, is_same_mode, is_same_range};
-use crate::rows::{HoldRow, LeaseRow, OpenRow, RangeRow, WaiterRow, Watch, WorkerRow};
+use crate::rows::{HoldRow, LeaseRow, OpenRow, RangeRow, WaiterRow, Watch};
 use crate::settle::{is_lease_of, lacks_handle, settle_lease};
 use crate::view;
 use sid_core::{LeaseName, Letter, Mode, OpenId, OutOfMemory, Post, Sid, Spot};
@@ -28,24 +28,23 @@ pub(crate) struct Candidate {
 
 // ---- what settling takes out of a file
 
-fn will_lack(opens: &[OpenRow], workers: &[WorkerRow], lease: &LeaseRow) -> bool
-    ensures { result ≡ lacks_once_settled opens.now (lives_by workers.now) lease.now }
+fn will_lack(lists: &Lists, lease: &LeaseRow) -> bool
+    ensures { result ≡ lacks_once_settled lists.now.opens.items (lives_by lists.now.workers.items) lease.now }
 {
+    let opens = lists.opens.as_slice();
+    let workers = lists.workers.as_slice();
     lacks_handle(&settle_lease(Scope::All, opens, workers, *lease))
 }
 
 fn some_will_lack(lists: &Lists, file: u32, name: LeaseName) -> bool
     ensures { result ≡ list_any (lacks_once_settled lists.now.opens.items (lives_by lists.now.workers.items)) (filter (is_lease_of file) (filter (has_name name) lists.now.leases.items)) }
 {
-    let opens = lists.opens.as_slice();
-    let workers = lists.workers.as_slice();
     lists
         .leases
-        .as_slice()
         .iter()
         .filter(|lease| view::has_name(name, lease))
         .filter(|lease| is_lease_of(file, lease))
-        .any(|lease| will_lack(opens, workers, lease))
+        .any(|lease| will_lack(lists, lease))
 }
 
 fn will_lose(lists: &Lists, file: u32, lease: Option<LeaseName>) -> bool
@@ -66,14 +65,11 @@ fn will_go(lists: &Lists, row: &OpenRow) -> bool
 fn some_lease_will_lack(lists: &Lists, file: u32) -> bool
     ensures { result ≡ list_any (lacks_once_settled lists.now.opens.items (lives_by lists.now.workers.items)) (filter (is_lease_of file) lists.now.leases.items) }
 {
-    let opens = lists.opens.as_slice();
-    let workers = lists.workers.as_slice();
     lists
         .leases
-        .as_slice()
         .iter()
         .filter(|lease| is_lease_of(file, lease))
-        .any(|lease| will_lack(opens, workers, lease))
+        .any(|lease| will_lack(lists, lease))
 }
 
 fn some_of_these_will_go(lists: &Lists, file: u32) -> bool
@@ -81,7 +77,6 @@ fn some_of_these_will_go(lists: &Lists, file: u32) -> bool
 {
     lists
         .opens
-        .as_slice()
         .iter()
         .filter(|row| view::is_of_file(file, row))
         .any(|row| will_go(lists, row))
@@ -105,7 +100,6 @@ fn range_will_go(lists: &Lists, file: u32, range: &RangeRow) -> bool
 {
     lists
         .opens
-        .as_slice()
         .iter()
         .filter(|row| view::is_of_file(file, row))
         .any(|row| will_go_with(lists, range, row))
@@ -116,7 +110,6 @@ fn some_range_will_go(lists: &Lists, file: u32) -> bool
 {
     lists
         .ranges
-        .as_slice()
         .iter()
         .filter(|range| view::is_range_of(file, range))
         .any(|range| range_will_go(lists, file, range))
@@ -129,7 +122,6 @@ fn has_open(lists: &Lists, file: u32, id: OpenId) -> bool
 {
     lists
         .opens
-        .as_slice()
         .iter()
         .filter(|row| view::is_of_file(file, row))
         .any(|row| view::has_id(id, row))
@@ -146,7 +138,6 @@ fn has_range(lists: &Lists, file: u32, id: OpenId) -> bool
 {
     lists
         .ranges
-        .as_slice()
         .iter()
         .filter(|range| view::is_range_of(file, range))
         .any(|range| is_range_of_open(id, range))
@@ -157,7 +148,6 @@ fn has_same_range(lists: &Lists, file: u32, range: &RangeRow) -> bool
 {
     lists
         .ranges
-        .as_slice()
         .iter()
         .filter(|held| view::is_range_of(file, held))
         .any(|held| is_same_range(range, held))
@@ -168,7 +158,6 @@ fn has_hold(lists: &Lists, key: u64, owner: Sid) -> bool
 {
     lists
         .holds
-        .as_slice()
         .iter()
         .filter(|hold| view::is_hold_of(key, hold))
         .any(|hold| is_hold(key, owner, hold))
@@ -185,7 +174,6 @@ fn holds_alone(lists: &Lists, key: u64, owner: Sid) -> bool
 {
     lists
         .holds
-        .as_slice()
         .iter()
         .filter(|hold| view::is_hold_of(key, hold))
         .any(|hold| is_held_alone(key, owner, hold))

@@ -5,7 +5,7 @@ ghost use Rattle.serial_table.specs.File.{file_view, file_open};
 ghost use Rattle.serial_table.specs.ByFile.{file_of_open};
 ghost use Rattle.serial_table.specs.Keeping.{FindsLeases};
 ghost use Rattle.serial_table.specs.Showing.{lease_text};
-ghost use Rattle.serial_table.specs.Tables.{lease_column, leases_of_open, files_row, file_rows, of_files, files_table};
+ghost use Rattle.serial_table.specs.Tables.{lease_column, leases_of_open, file_rows, of_files, files_table};
 
 use super::index::{Key, key_of_name, leases_by_name};
 use super::writers::{push_files_page, push_open_row};
@@ -31,23 +31,6 @@ fn lease_of(
 
 // ---- rows
 
-fn push_row(
-    out: &mut Vec<u8>,
-    setup: &Setup,
-    table: &Table,
-    leases: &BTreeMap<Key, LeaseRow>,
-    info: &FileInfo,
-    file: u64,
-    row: &OpenRow,
-) -> Result<(), OutOfMemory>
-    requires { FindsLeases leases.now table.now.leases }
-    ensures { OnOk result (out.new.items ≡ out.old.items ++ files_row setup.now info.now (file_view file (view table.now)) (file_open (lives (view table.now)) row.now)) }
-{
-    let connected = view::lives(table.workers.as_slice(), row.owner);
-    let lease = lease_of(table, leases, file, row);
-    push_open_row(out, setup, info, connected, row, lease)
-}
-
 fn push_file(
     out: &mut Vec<u8>,
     setup: &Setup,
@@ -62,7 +45,9 @@ fn push_file(
     ensures { OnOk result (out.new.items ≡ out.old.items ++ file_rows setup.now info.now (file_view file (view table.now))) }
 {
     for row in own {
-        push_row(out, setup, table, leases, info, file, row)?;
+        let connected = view::lives(table.workers.as_slice(), row.owner);
+        let lease = lease_of(table, leases, file, row);
+        push_open_row(out, setup, info, connected, row, lease)?;
     }
     Ok(())
 }

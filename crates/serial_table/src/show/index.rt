@@ -24,24 +24,12 @@ pub(crate) fn key_of_name(file: u64, name: LeaseName) -> Key
     (file, (name.guid, name.key))
 }
 
-fn keep_open(map: &mut BTreeMap<Key, OpenRow>, key: Key, row: &OpenRow) -> Result<(), OutOfMemory>
+/// Adds the row, unless there is one of its key.
+fn keep_first<T: Copy>(map: &mut BTreeMap<Key, T>, key: Key, row: &T) -> Result<(), OutOfMemory>
     ensures { OnOk result (KeepsFirst key_cmp key row.now map.old map.new) }
 {
     if !map.contains_key(&key) {
         map.insert(key, *row)?;
-    }
-    Ok(())
-}
-
-fn keep_lease(
-    map: &mut BTreeMap<Key, LeaseRow>,
-    key: Key,
-    lease: &LeaseRow,
-) -> Result<(), OutOfMemory>
-    ensures { OnOk result (KeepsFirst key_cmp key lease.now map.old map.new) }
-{
-    if !map.contains_key(&key) {
-        map.insert(key, *lease)?;
     }
     Ok(())
 }
@@ -55,7 +43,7 @@ pub(crate) fn opens_by_id(
 {
     let mut map = BTreeMap::new(alloc);
     for row in opens {
-        keep_open(&mut map, key_of_id(row.file as u64, row.id), row)?;
+        keep_first(&mut map, key_of_id(row.file as u64, row.id), row)?;
     }
     Ok(map)
 }
@@ -69,7 +57,7 @@ pub(crate) fn leases_by_name(
 {
     let mut map = BTreeMap::new(alloc);
     for lease in leases {
-        keep_lease(&mut map, key_of_name(lease.file as u64, lease.name), lease)?;
+        keep_first(&mut map, key_of_name(lease.file as u64, lease.name), lease)?;
     }
     Ok(map)
 }

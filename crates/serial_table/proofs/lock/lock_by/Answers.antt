@@ -11,12 +11,12 @@ pub returns-in-Some : goal.returns-in-Some
 returns-in-Some c =
     let row = c.args.row.now in
     let f = file_view row.file (view c.args.table.now) in
-    let found = head_found (λ held. range_conflict held row.id c.args.span c.args.mode) (filter (is_range_of row.file) c.args.table.now.ranges) c.in-Some.first (sym c.in-Some.ensures) in
-    c.lock_behind.ensures found.0 ∙ ap (lock_by f c.args.caller.now c.args.span c.args.mode c.args.wait row) (sym found.1)
+    let found = head_found (λ held. range_conflict held row.id c.args.asked.now.span c.args.asked.now.mode) (filter (is_range_of row.file) c.args.table.now.ranges) c.in-Some.first (sym c.in-Some.ensures) in
+    c.lock_behind.ensures found.0 ∙ ap (lock_by f c.args.caller.now c.args.asked.now.span c.args.asked.now.mode c.args.asked.now.wait row) (sym found.1)
 
 pub returns-in-None : goal.returns-in-None
 returns-in-None c =
     let row = c.args.row.now in
     let f = file_view row.file (view c.args.table.now) in
-    let none = none_found (λ held. range_conflict held row.id c.args.span c.args.mode) (filter (is_range_of row.file) c.args.table.now.ranges) (sym c.in-None.ensures) in
-    IfOk-weaker c.grant_range.result _ _ (λ _ h. h ∙ ap (lock_by f c.args.caller.now c.args.span c.args.mode c.args.wait row) (sym none)) c.grant_range.ensures
+    let none = none_found (λ held. range_conflict held row.id c.args.asked.now.span c.args.asked.now.mode) (filter (is_range_of row.file) c.args.table.now.ranges) (sym c.in-None.ensures) in
+    IfOk-weaker c.grant_range.result _ _ (λ _ h. h ∙ ap (lock_by f c.args.caller.now c.args.asked.now.span c.args.asked.now.mode c.args.asked.now.wait row) (sym none)) c.grant_range.ensures
