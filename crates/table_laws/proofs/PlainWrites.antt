@@ -1,5 +1,5 @@
 -- What calls of no file and deaths write goes by the chains of their footprint alone.
-use Rattle.std.proofs.Common.{◌≡◌, ℕ, Bool, true, false, ◌&&◌, ◌||◌, not, ◌==◌, List, [], ◌∷◌, ◌++◌, map, filter, Option, Some, None, refl, sym, ap, ◌∙◌, subst, inl, inr}
+use Rattle.std.proofs.Common.{◌≡◌, ℕ, ◌≤◌, Bool, true, false, ◌&&◌, ◌||◌, not, ◌==◌, List, [], ◌∷◌, ◌++◌, map, filter, Option, Some, None, refl, sym, ap, ◌∙◌, subst, inl, inr}
 use Rattle.std.specs.List.{AllByRecursion, list_any}
 use Rattle.std.specs.Option.{option_map, option_map_or}
 use Rattle.sid_core.specs.declared.call.Call.{Call}
@@ -18,6 +18,7 @@ use Rattle.sid_core.specs.declared.reply.Reply.{Reply}
 use Rattle.sid_core.specs.declared.setup.Setup.{Setup}
 use Rattle.sid_core.specs.declared.setup.WorkerInfo.{WorkerInfo}
 use Rattle.sid_core.specs.Ids.{same_sid}
+use Rattle.sid_core.specs.Setup.{IsSetup}
 use Rattle.serial_table.specs.declared.rows.HoldRow.{HoldRow}
 use Rattle.serial_table.specs.declared.rows.Watch.{Watch}
 use Rattle.serial_table.specs.declared.table.Table.{Table}
@@ -40,7 +41,7 @@ use Rattle.serial_table.specs.Decision.{only_reply, Outcome, settling, conclude,
 use Rattle.serial_table.specs.Disconnect.{disconnect}
 use Rattle.serial_table.specs.Expire.{expired_by}
 use Rattle.serial_table.specs.GlobalLock.{own_holds, glock_by, glock, gunlock_by, gunlock}
-use Rattle.serial_table.specs.History.{start, after, IsLegalDeath}
+use Rattle.serial_table.specs.History.{start, after, IsLegal, IsLegalDeath}
 use Rattle.serial_table.specs.Recv.{recv_first, recv}
 use Rattle.serial_table.specs.Session.{end_of_session}
 use Rattle.serial_table.specs.Sound.{IsSound}
@@ -55,7 +56,7 @@ use Rattle.stored_table.specs.Histories.{moved_by}
 use Rattle.stored_table.specs.Move.{move, places_written}
 use Rattle.stored_table.specs.Met.{KeyList, Met, met, met_by_call, met_by_files, met_by_worker, all_met, nothing_met}
 use Rattle.stored_table.specs.Stands.{StandsFor}
-use Rattle.table_laws.specs.ByFootprint.{IsWrittenByFootprint}
+use Rattle.table_laws.specs.ByFootprint.{AgreeOnFootprint, IsWrittenByFootprint}
 use Rattle.table_laws.specs.Standing.{call_entry}
 use Rattle.table_laws.proofs.CallWrites.{WritesAlike, call_written}
 use Rattle.table_laws.proofs.Chains.{IsFine, legal_is_fine}
@@ -216,48 +217,57 @@ module _ (setup : Setup) (n by seq worker : ℕ) (moment : Moment) where
   abbrev death : Entry
   death = record { by = by; seq = seq; what = Died worker moment }
 
+  module _ (is : IsSetup setup) (some : 1 ≤ n) (before other : List Entry) (legal : IsLegal setup (before ++ death ∷ [])) (legal_other : IsLegal setup (other ++ death ∷ []))
+      (agree : AgreeOnFootprint setup n (moved_by setup n before) (moved_by setup n other) death) where
+    abbrev k : Chains
+    k = moved_by setup n before
+
+    abbrev j : Chains
+    j = moved_by setup n other
+
+    abbrev t : Table
+    t = after setup before
+
+    abbrev u : Table
+    u = after setup other
+
+    -- what the death makes of a table at which the worker can call
+    abbrev ended : Table → Caller → List Change
+    ended x caller = (conclude (view x) (end_of_session (view x) caller.sid moment [])).changes
+
+    stepped : (history : List Entry) (caller : Caller) → caller_of setup (view (after setup history)) worker 0 moment ≡ Some caller
+        → after setup (history ++ death ∷ []) ≡ perform_all (ended (after setup history) caller) (after setup history)
+    stepped history caller from =
+        after_all-append setup (start setup) history death
+        ∙ ap (λ o. perform_all (option_map_or (λ (done : Outcome). done.changes) (option_map (λ (caller : Caller). conclude (view (after setup history)) (end_of_session (view (after setup history)) caller.sid moment [])) o) []) (after setup history)) from
+
+    none_dies : ◌≡◌ {A = Bool} false true → ⊥
+    none_dies h = cc
+
+    died_by : (q : Option Caller) → caller_of setup (view t) worker 0 moment ≡ q → IsSome (option_map (λ (caller : Caller). conclude (view t) (end_of_session (view t) caller.sid moment [])) q)
+        → AllByRecursion (λ c. chain_at (move setup n k death (view (after setup (before ++ death ∷ [])))) c ≡ chain_at (move setup n j death (view (after setup (other ++ death ∷ [])))) c) (footprint setup n k death)
+    died_by None from dies = absurd (none_dies dies)
+    died_by (Some caller) from dies =
+        let b = before_entry setup n is some before death legal in
+        let d = before_entry setup n is some other death legal_other in
+        let of = is_caller_of setup t worker 0 moment caller from in
+        let info = of.info in
+        let met_is : met setup n k death ≡ met_by_worker n k info = ap (λ o. option_map_or (met_by_worker n k) o nothing_met) of.declared in
+        let here = at_met setup n k j death (met_by_worker n k info) met_is (met_value setup n k j death b.stands.well_formed.chains agree) in
+        let same_worker = own_register_same setup n k j [] [] [] [] (pid_key info.pid ∷ []) here info.pid (inl refl) in
+        let from_other = sym (caller_same setup (records_of setup n k) (records_of setup n j) t u b.stands.agree d.stands.agree worker 0 moment info of.declared same_worker) ∙ from in
+        let register : exact_register (view t) caller.sid.pid ≡ exact_register (view u) caller.sid.pid =
+        subst (λ p. exact_register (view t) p ≡ exact_register (view u) p) (sym of.pid) (register_before setup n k j t u b.stands d.stands b.fine d.fine [] [] [] [] (pid_key info.pid ∷ []) here info.pid (inl refl)) in
+        let same = ended_changes (view t) (view u) caller.sid moment [] (behind_told setup t b.fine caller.sid ∙ ap (behind_by caller.sid) register ∙ sym (behind_told setup u d.fine caller.sid)) in
+        let cs = ended t caller in
+        let after_is = stepped before caller from in
+        let after_other = stepped other caller from_other ∙ ap (λ ds. perform_all ds u) (sym same) in
+        let sound : IsSound (perform_all cs t) = subst IsSound after_is (legal_is_fine setup (before ++ death ∷ []) is legal).sound in
+        let sound_other : IsSound (perform_all cs u) = subst IsSound after_other (legal_is_fine setup (other ++ death ∷ []) is legal_other).sound in
+        lands setup n is some before other death legal legal_other agree (perform_all cs t) (perform_all cs u) after_is after_other (met_by_worker n k info) met_is (λ x. refl)
+        (records_alike setup n k j t u b.stands d.stands b.fine d.fine [] [] [] [] (pid_key info.pid ∷ []) here cs sound sound_other (λ file i. absurd i) (λ name i. absurd i)) (λ key i. absurd i)
+
   pub died_written : IsWrittenByFootprint setup n (record { by = by; seq = seq; what = Died worker moment })
-  died_written before other is some legal legal_other agree = found (caller_of setup (view (after setup before)) worker 0 moment) refl at.dies
-    where
-      at : IsLegalDeath setup (after setup before) worker moment
-      at = (legal_before setup (start setup) before [] (record { by = by; seq = seq; what = Died worker moment }) legal.entries).1
-
-      stepped : (history : List Entry) (caller : Caller) → caller_of setup (view (after setup history)) worker 0 moment ≡ Some caller
-          → after setup (history ++ record { by = by; seq = seq; what = Died worker moment } ∷ []) ≡ perform_all (conclude (view (after setup history)) (end_of_session (view (after setup history)) caller.sid moment [])).changes (after setup history)
-      stepped history caller from =
-          after_all-append setup (start setup) history (record { by = by; seq = seq; what = Died worker moment })
-          ∙ ap (λ o. perform_all (option_map_or (λ (done : Outcome). done.changes) (option_map (λ (caller : Caller). conclude (view (after setup history)) (end_of_session (view (after setup history)) caller.sid moment [])) o) []) (after setup history)) from
-
-      none_dies : ◌≡◌ {A = Bool} false true → ⊥
-      none_dies h = cc
-
-      found : (q : Option Caller) → caller_of setup (view (after setup before)) worker 0 moment ≡ q
-          → IsSome (option_map (λ (caller : Caller). conclude (view (after setup before)) (end_of_session (view (after setup before)) caller.sid moment [])) q)
-          → AllByRecursion (λ c. chain_at (move setup n (moved_by setup n before) (record { by = by; seq = seq; what = Died worker moment }) (view (after setup (before ++ record { by = by; seq = seq; what = Died worker moment } ∷ [])))) c
-          ≡ chain_at (move setup n (moved_by setup n other) (record { by = by; seq = seq; what = Died worker moment }) (view (after setup (other ++ record { by = by; seq = seq; what = Died worker moment } ∷ [])))) c)
-          (footprint setup n (moved_by setup n before) (record { by = by; seq = seq; what = Died worker moment }))
-      found None from dies = absurd (none_dies dies)
-      found (Some caller) from dies =
-          let e = death in
-          let k = moved_by setup n before in
-          let j = moved_by setup n other in
-          let t = after setup before in
-          let u = after setup other in
-          let b = before_entry setup n is some before e legal in
-          let d = before_entry setup n is some other e legal_other in
-          let of = is_caller_of setup t worker 0 moment caller from in
-          let info = of.info in
-          let met_is : met setup n k e ≡ met_by_worker n k info = ap (λ o. option_map_or (met_by_worker n k) o nothing_met) of.declared in
-          let here = at_met setup n k j e (met_by_worker n k info) met_is (met_value setup n k j e b.stands.well_formed.chains agree) in
-          let same_worker = own_register_same setup n k j [] [] [] [] (pid_key info.pid ∷ []) here info.pid (inl refl) in
-          let from_other = sym (caller_same setup (records_of setup n k) (records_of setup n j) t u b.stands.agree d.stands.agree worker 0 moment info of.declared same_worker) ∙ from in
-          let register : exact_register (view t) caller.sid.pid ≡ exact_register (view u) caller.sid.pid =
-          subst (λ p. exact_register (view t) p ≡ exact_register (view u) p) (sym of.pid) (register_before setup n k j t u b.stands d.stands b.fine d.fine [] [] [] [] (pid_key info.pid ∷ []) here info.pid (inl refl)) in
-          let same = ended_changes (view t) (view u) caller.sid moment [] (behind_told setup t b.fine caller.sid ∙ ap (behind_by caller.sid) register ∙ sym (behind_told setup u d.fine caller.sid)) in
-          let cs = (conclude (view t) (end_of_session (view t) caller.sid moment [])).changes in
-          let after_is = stepped before caller from in
-          let after_other = stepped other caller from_other ∙ ap (λ ds. perform_all ds u) (sym same) in
-          let sound : IsSound (perform_all cs t) = subst IsSound after_is (legal_is_fine setup (before ++ e ∷ []) is legal).sound in
-          let sound_other : IsSound (perform_all cs u) = subst IsSound after_other (legal_is_fine setup (other ++ e ∷ []) is legal_other).sound in
-          lands setup n is some before other e legal legal_other agree (perform_all cs t) (perform_all cs u) after_is after_other (met_by_worker n k info) met_is (λ x. refl)
-          (records_alike setup n k j t u b.stands d.stands b.fine d.fine [] [] [] [] (pid_key info.pid ∷ []) here cs sound sound_other (λ file i. absurd i) (λ name i. absurd i)) (λ key i. absurd i)
+  died_written before other is some legal legal_other agree =
+      let at : IsLegalDeath setup (after setup before) worker moment = (legal_before setup (start setup) before [] death legal.entries).1 in
+      died_by is some before other legal legal_other agree (caller_of setup (view (after setup before)) worker 0 moment) refl at.dies
